@@ -453,8 +453,10 @@ function rounds() {
 }
 
 // Nodes whose words are wider than they are.
-const wideNodes = () => [...document.querySelectorAll("#picture .node")]
-  .filter(it => it.querySelector("text").getBBox().width > it.querySelector("rect").getBBox().width - 4).map(it => it.textContent);
+function wideNodes() {
+  const width = (node, tag) => node.querySelector(tag).getBBox().width;
+  return [...document.querySelectorAll("#picture .node")].filter(it => width(it, "text") > width(it, "rect") - 4).map(it => it.textContent);
+}
 
 // What isn't as it is to be while somebody guesses: the form outside of the window or cut off, a token or a node that it covers, a picture
 // that is too low; on the wall letters below 1/36 of the window's height.

@@ -85,6 +85,17 @@ def try_narrow(page, live, window):
     window.script("document.getElementById('own-run').click()")
     live.waits(window, live.IDLE)
     page.judge("and is put away again", program_seen(window), ["program"])
+    live.runs(window, programs.TEXTS["double.pcf"])
+    out = window.script("""
+      const { top, bottom } = document.getElementById("net").getBoundingClientRect();
+      const places = [...document.querySelectorAll("#picture .node")].map(it => [it.textContent, it.getBoundingClientRect()]);
+      return places.filter(([, box]) => box.top < top + 40 || box.bottom > Math.min(bottom, innerHeight)).map(([name]) => name);""")
+    page.judge("all of double is seen", out, [])
+    window.script("document.getElementById('begin-tour').click()")
+    time.sleep(0.3)
+    page.judge("the tour covers nothing", page.ask(window, "tourFaults"), [])
+    window.script("document.getElementById('tour-end').click()")
+    live.runs(window, programs.TEXTS["sum.pcf"])
     window.resize(1440, 900)
     page.judge("in a wide window it is there", program_seen(window), ["own-text"])
     live.quiet(page, window, "a narrow window")

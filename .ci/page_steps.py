@@ -46,7 +46,7 @@ def listed(live, window):
 FOLLOWS = """
 const list = document.getElementById("steps-rows");
 const found = [];
-for (let at = 0; at <= walk.view.run.length; at++) {
+for (const at of arguments[0]) {
   walk.show(at);
   const row = list.querySelector(".present");
   found.push(row && Number(row.firstChild.textContent.split(" ")[0]));
@@ -59,8 +59,9 @@ def try_follows(page, window, name):
     visits = [(at, number) for number, (_, at) in enumerate(window.script("return walk.visitsOf(walk.view.run).map(it => [it.rule, it.at])"))]
     listed = window.script("return document.querySelectorAll('#steps-rows .step').length")
     length = window.script("return walk.view.run.length")
-    wanted = [max((it for it in visits if it[0] < at and it[1] < listed), default=(None, None))[1] for at in range(length + 1)]
-    page.judge(f"{name}: steps follow the walk", window.script(FOLLOWS), wanted)
+    places = page.spread(length, 80)
+    wanted = [max((it for it in visits if it[0] < at and it[1] < listed), default=(None, None))[1] for at in places]
+    page.judge(f"{name}: steps follow the walk", window.script(FOLLOWS, places), wanted)
 
 
 def try_visits(page, live, window, calls, name, text):

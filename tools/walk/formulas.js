@@ -1,5 +1,5 @@
-// Types and nodes as linear logic has them, in the notation of docs/NET.md: `A -> B` is `!A ⊸ B`, a pair is `&`, and a variable's uses are
-// the dual of its argument.
+// Types and nodes as linear logic has them, in the notation of docs/NET.md: `A -> B` is `!A ⊸ B`, a pair is `&`, and the uses of a variable
+// are the dual of its argument.
 
 // The rule of each node that isn't a constant of the language.
 const RULES = {

@@ -74,8 +74,9 @@ function guessWire(event) {
 
 function drawGuessed() {
   const wire = guessField("wire").value;
-  const path = view.net.wires[wire] && shape("path", { d: wirePath(view.layout.points[wire]), style: "stroke:var(--accent);stroke-width:7;opacity:.5" });
-  drawing.layers.guessed.replaceChildren(...path ? [path] : []);
+  const style = "stroke:var(--accent);stroke-width:7;opacity:.5";
+  const drawn = view.net.wires[wire] ? [shape("path", { d: wirePath(view.layout.points[wire]), style })] : [];
+  drawing.layers.guessed.replaceChildren(...drawn);
 }
 
 // A stack as somebody writes it.
@@ -96,7 +97,8 @@ function guessFaults(move, said) {
 // The row that was applied, in a line: `left ↓ s.m becomes conclusion ↓ l s.m`.
 function rowInLine({ from, to }) {
   if (!from) return "";
-  const side = ([port, direction, work, boxes]) => `${port} ${direction === "up" ? "↑" : "↓"} ${work}` + (boxes === "t" ? "" : ` at ${boxes}`);
+  const arrow = { up: "↑", down: "↓" };
+  const side = ([port, direction, work, boxes]) => `${port} ${arrow[direction]} ${work}` + (boxes === "t" ? "" : ` at ${boxes}`);
   return `, ${side(from)} becomes ${side(to)}`;
 }
 

@@ -85,6 +85,14 @@ function fitAll() {
 const marked = () => toldMove();
 const PAN = 60;
 
+// The words of a signature, the tour and the menu, and then the wall or guessing.
+function leave() {
+  forgetChain();
+  endTour();
+  setMenu(false);
+  if (view.wall) setWall(false); else if (guess.on) setGuess(false);
+}
+
 // What each key does. The list that the page shows is in page.html.
 const KEYS = {
   " ": () => playing.on ? pause() : play(),
@@ -125,7 +133,7 @@ const KEYS = {
   ">": () => changeSpeed(1),
   "<": () => changeSpeed(-1),
   "?": () => byId("keys").showModal(),
-  Escape: () => { forgetChain(); endTour(); setMenu(false); if (view.wall) setWall(false); else if (guess.on) setGuess(false); },
+  Escape: leave,
 };
 
 function pressKey(event) {

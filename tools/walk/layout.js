@@ -26,7 +26,9 @@ const signOf = node => node.name === "Const" ? node.value : SIGNS[node.name] || 
 const nodeText = (node, sizes) => sizes.rules && RULES[node.name] || signOf(node);
 
 function nodeWidth(node, sizes) {
-  const letters = nodeText(node, sizes).length + String(node.id).length * 0.8 + 0.8;
+  const text = nodeText(node, sizes);
+  // (A word is narrower than as many signs.)
+  const letters = text.length * (text.length > 6 ? 0.84 : 1) + String(node.id).length * 0.8 + 0.8;
   return Math.max(node.up.length > 1 || node.down.length > 1 ? 50 : 40, Math.round(letters * sizes.sign + 14));
 }
 

@@ -76,8 +76,8 @@ let placeTimer = 0;
 function rememberPlace() {
   clearTimeout(placeTimer);
   const place = () => view.rounds ? "round=" + wayMade() : "move=" + movesMade();
-  const shown = () => (view.types ? "&types=1" : "") + (view.rules ? "&rules=1" : "") + (view.wall ? "&wall=1" : "") + (guess.on ? "&guess=1" : "") +
-    view.addressEnd();
+  const switches = () => Object.entries({ types: view.types, rules: view.rules, wall: view.wall, guess: guess.on });
+  const shown = () => switches().map(([name, on]) => on ? `&${name}=1` : "").join("") + view.addressEnd();
   placeTimer = setTimeout(() => history.replaceState(null, "", "#" + view.address + place() + shown()), 300);
 }
 

@@ -32,12 +32,10 @@ function start() {
 
 // For the page with the machine inside, for the tests, and for whoever looks at the page with a browser's own tools.
 window.walk = {
-  view, camera, playing, drawing, keys: KEYS, show: jump, showAll, zoom, shownRange, goOther, setSpeed, setTypes, setRules, setTheme, setColourBy,
+  view, camera, playing, drawing, keys: KEYS, show: jump, showAll, zoom, shownRange, goOther, setSpeed, setTypes, setTheme, setColourBy,
   openFiles, openWalk, goToAddress, saveFile, readNet, readTerm, namesIn, ruleOf, pictureText, whyNoSwap, swappedSchedule,
   spelled, marksIn, waitingRows, waitingTitle, chainOfMark, textOf, programText, termText,
   setRounds, inRounds, setWall, stripMarks, Reordered, replayed, scheduleText, readTrace, traceHead, Run,
-  setGuess, guess, guessFaults,
-  putRows, activeRow, activateRow, joinRows, setProgramHome, fileStem, beside,
-  putSteps, steps, stepVisits, visitsOf, callsIn, setByCalls,
+  putRows, activeRow, activateRow, joinRows, setProgramHome, fileStem, beside, guess, putSteps, steps, stepVisits, visitsOf,
 };
 start();

@@ -3,9 +3,10 @@
 //
 // A step is a visit at which a question is asked anew, or a number is made of others. At the node of a `fun`, a `fix` or a pair a question
 // for the result of the whole goes into the body or a part: the step puts the argument, the term itself or the part there. At an operator
-// or a test the answers have come. A question that comes back for an argument names it by a signature on its work stack, and makes no step.
-// Both operands of an operator walk at once and in any order, while the reduction goes through the left one first: so the visits are told
-// in the order of the terms. Nothing proves this. It is held against the machine's own list of rules, and where both differ, nothing is shown.
+// or a test the answers have come. A question that comes back for an argument names it by a signature on its work stack, and makes no
+// step. Both operands of an operator walk at once and in any order, while the reduction goes through the left one first: so the visits are
+// told in the order of the terms. Nothing proves this. It is held against the machine's own list of rules, and where both differ, nothing
+// is shown.
 
 const STEP_OF_NODE = { Succ: "succ", Pred: "pred", Plus: "plus", Minus: "minus", Times: "times" };
 const GREATEST_TEXT = "18446744073709551615";
