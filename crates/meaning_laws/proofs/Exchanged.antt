@@ -12,12 +12,13 @@ use Rattle.net_build.specs.Sound.{Sound}
 use Rattle.adequacy_laws.specs.Questions.{Length}
 use Rattle.adequacy_laws.proofs.Finishing.{means_length}
 use Rattle.meaning_laws.specs.Contexts.{Context, fill}
-use Rattle.meaning_laws.specs.Equations.{Equals}
+use Rattle.meaning_laws.specs.Equations.{Equals, Rewrites, ends, goes_on}
 use Rattle.meaning_laws.specs.NoFix.{NoFix}
 use Rattle.meaning_laws.specs.Laws.{ClosedPut, SamePrograms}
 use Rattle.meaning_laws.proofs.Below.{Below, closed_below, below_closed, put_closed, typed_below}
 use Rattle.meaning_laws.proofs.Alike.{Alike, alike_in}
 use Rattle.meaning_laws.proofs.Running.{value_like, like_value_left, forth, back}
+use Rattle.meaning_laws.proofs.Types.{types_kept}
 use Rattle.meaning_laws.proofs.Tait.{no_fix_value}
 
 pub typed_closed : (m : TermTree) (t : TyTree) → HasType [] m t → Closed m
@@ -46,7 +47,7 @@ pub in_every_context : (l r : TermTree) → Equals l r → (c : Context) → Clo
 in_every_context l r q c h = alike_means (fill c l) (fill c r) (alike_in c l r q) (closed_below (fill c l) h)
 
 -- of two programs that mean the same, the nets have the same values
-pub same_programs : (m n : TermTree) → HasType [] m nat → HasType [] n nat → Sound (net_of m) → Sound (net_of n) →
+same_programs : (m n : TermTree) → HasType [] m nat → HasType [] n nat → Sound (net_of m) → Sound (net_of n) →
     ((v : Val) → Means m v ↔ Means n v) → SamePrograms m n
 same_programs m n h k s z e = record {
   typed = k;
@@ -56,6 +57,29 @@ same_programs m n h k s z e = record {
     (λ x. (means_length m h s v).0 ((e v).1 ((means_length n k z v).1 x))),
   );
 }
+
+-- one equation
+pub kept : ((m : TermTree) → HasType [] m nat → Sound (net_of m)) → (l r : TermTree) → Equals l r → (c : Context) →
+    HasType [] (fill c l) nat → SamePrograms (fill c l) (fill c r)
+kept sound l r q c h =
+    let k = types_kept l r q c [] nat h in
+    same_programs (fill c l) (fill c r) h k (sound (fill c l) h) (sound (fill c r) k)
+    (in_every_context l r q c (typed_closed (fill c l) nat h))
+
+same_then : (m n p : TermTree) → SamePrograms m n → SamePrograms n p → SamePrograms m p
+same_then m n p h k = record {
+  typed = k.typed;
+  means = λ v. ((λ e. (k.means v).0 ((h.means v).0 e)), (λ e. (h.means v).1 ((k.means v).1 e)));
+  nets = λ v. ((λ e. (k.nets v).0 ((h.nets v).0 e)), (λ e. (h.nets v).1 ((k.nets v).1 e)));
+}
+
+-- and any number
+pub all_kept : ((m : TermTree) → HasType [] m nat → Sound (net_of m)) → (m n : TermTree) → Rewrites m n → HasType [] m nat →
+    SamePrograms m n
+all_kept sound m _ ends h = record { typed = h; means = λ v. ((λ e. e), (λ e. e)); nets = λ v. ((λ e. e), (λ e. e)) }
+all_kept sound _ n (goes_on {l = l} {r = r} c q s) h =
+    let first = kept sound l r q c h in
+    same_then (fill c l) (fill c r) n first (all_kept sound (fill c r) n s first.typed)
 
 pub no_fix_length : (m : TermTree) → HasType [] m nat → Sound (net_of m) → NoFix m → (v : Val) × (n : ℕ) × Means m v × Length (net_of m) v n
 no_fix_length m h s f =

@@ -7,6 +7,7 @@ use Rattle.pcf_values.specs.declared.operator.Operator.{Operator}
 use Rattle.pcf_values.specs.declared.side.Side.{Side}
 use Rattle.pcf_values.specs.Terms.{TyTree, at_side, TermTree, num, succ_of, pred_of, binary, ifz, lam, fix, app, pair, proj}
 use Rattle.meaning_laws.specs.Put.{put}
+use Rattle.meaning_laws.specs.Contexts.{Context, fill}
 
 pub data Equals : TermTree → TermTree → Type 0 where
   -- (fun x. m) n is m with n for x
@@ -22,3 +23,8 @@ pub data Equals : TermTree → TermTree → Type 0 where
   before : {n z : ℕ} → val_pred (Number n) ≡ Number z → Equals (pred_of (num n)) (num z)
   computed : {o : Operator} {m n z : ℕ} → val_op o (Number m) (Number n) ≡ Number z →
       Equals (binary o (num m) (num n)) (num z)
+
+-- any number of equations one after the other, each at some place
+pub data Rewrites : TermTree → TermTree → Type 0 where
+  ends : {m : TermTree} → Rewrites m m
+  goes_on : {l r n : TermTree} (c : Context) → Equals l r → Rewrites (fill c r) n → Rewrites (fill c l) n

@@ -7,7 +7,7 @@ use Rattle.pcf_values.specs.Terms.{nat, arrow, TermTree, num, var, pred_of, bina
 use Rattle.cbn_meaning.specs.Meaning.{Means}
 use Rattle.meaning_laws.specs.Put.{put}
 use Rattle.meaning_laws.specs.Contexts.{Context, hole, in_succ, in_left, in_else, in_lam, in_function, fill}
-use Rattle.meaning_laws.specs.Equations.{Equals}
+use Rattle.meaning_laws.specs.Equations.{Equals, Rewrites}
 use Rattle.meaning_laws.specs.NoFix.{NoFix}
 
 -- `x - y` below `fun y`, where x stands outside
@@ -60,6 +60,10 @@ pub record ExampleContexts : Type 0 where
   pub other_branch : BothMean (in_succ hole) (ifz (num 9) loops (num 2)) (num 2) 3
   -- numbers
   pub numbers : BothMean (in_else (num 1) loops hole) (binary Minus (num 2) (num 5)) (num 0) 0
+
+-- `(fun x. x + x) 3` is `3 + 3`, which is 6
+abbrev pub ExampleRewrites : Type 0
+ExampleRewrites = Rewrites (app (lam nat (binary Plus (var 0) (var 0))) (num 3)) (num 6)
 
 pub record ExampleNoFix : Type 0 where
   -- `(fun x. x + x) 3`

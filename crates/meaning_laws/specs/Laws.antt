@@ -11,7 +11,7 @@ use Rattle.adequacy_laws.specs.Questions.{Length}
 use Rattle.adequacy_laws.specs.Adequacy.{OfEveryProgram}
 use Rattle.meaning_laws.specs.Put.{put}
 use Rattle.meaning_laws.specs.Contexts.{Context, fill}
-use Rattle.meaning_laws.specs.Equations.{Equals}
+use Rattle.meaning_laws.specs.Equations.{Equals, Rewrites}
 use Rattle.meaning_laws.specs.NoFix.{NoFix}
 
 -- a closed term that is put is what the meaning puts, and a term with a type in no context is closed
@@ -36,8 +36,13 @@ pub record SamePrograms (m n : TermTree) : Type 0 where
   pub means : (v : Val) → Means m v ↔ Means n v
   pub nets : (v : Val) → ((k : ℕ) × Length (net_of m) v k) ↔ ((k : ℕ) × Length (net_of n) v k)
 
+-- so it is after one equation
 abbrev pub KeepPrograms : Type 0
 KeepPrograms = (l r : TermTree) → Equals l r → (c : Context) → HasType [] (fill c l) nat → SamePrograms (fill c l) (fill c r)
+
+-- and after any number of them
+abbrev pub RewritesKeep : Type 0
+RewritesKeep = (m n : TermTree) → Rewrites m n → HasType [] m nat → SamePrograms m n
 
 -- a program without `fix` means a value
 abbrev pub NoFixValue : Type 0

@@ -1,8 +1,9 @@
 //! What holds of terms in every context, and of programs without `fix`.
 
 ghost use Rattle.net_build.specs.Laws.{BuiltSound};
-ghost use Rattle.meaning_laws.specs.Laws.{ClosedPut, InEveryContext, KeepTypes, KeepPrograms, NoFixValue, NoFixLength};
-ghost use Rattle.meaning_laws.specs.Examples.{ExamplePut, ExampleContexts, ExampleNoFix};
+ghost use Rattle.meaning_laws.specs.Laws.{ClosedPut, InEveryContext, KeepTypes, KeepPrograms, RewritesKeep};
+ghost use Rattle.meaning_laws.specs.Laws.{NoFixValue, NoFixLength};
+ghost use Rattle.meaning_laws.specs.Examples.{ExamplePut, ExampleContexts, ExampleRewrites, ExampleNoFix};
 
 /// What is put for an index is what the meaning puts, where it is closed; and each term that has a type in no context is closed.
 pub fn law_closed()
@@ -15,10 +16,12 @@ pub fn law_equations()
     ensures { InEveryContext }
 {}
 
-/// And programs stay programs: the type is kept, the values are the same, and so are those of the nets, whose lengths may differ.
+/// And programs stay programs, by any number of equations: the type is kept, the values are the same, and so are those of the nets, whose
+/// lengths may differ.
 pub fn law_programs()
     ensures types { KeepTypes }
     ensures programs { KeepPrograms }
+    ensures rewrites { RewritesKeep }
 {
     net_build::law_built_sound();
 }
@@ -35,5 +38,6 @@ pub fn law_no_fix()
 pub fn law_example_equations()
     ensures put { ExamplePut }
     ensures contexts { ExampleContexts }
+    ensures rewrites { ExampleRewrites }
     ensures no_fix { ExampleNoFix }
 {}
