@@ -1,5 +1,5 @@
 -- The laws of equations, and what the net of a program without `fix` comes to.
-use Rattle.std.proofs.Common.{◌↔◌, ℕ, [], subst, arith}
+use Rattle.std.proofs.Common.{◌≡◌, ◌↔◌, ℕ, [], subst, arith}
 use Rattle.pcf_values.specs.declared.val.Val.{Val}
 use Rattle.pcf_values.specs.Terms.{TyTree, nat, TermTree}
 use Rattle.pcf_values.specs.Typing.{HasType}
@@ -11,10 +11,12 @@ use Rattle.net_build.specs.NetOf.{net_of}
 use Rattle.net_build.specs.Sound.{Sound}
 use Rattle.adequacy_laws.specs.Questions.{Length}
 use Rattle.adequacy_laws.proofs.Finishing.{means_length}
+use Rattle.cbn_meaning.specs.Substitution.{subst_at}
+use Rattle.meaning_laws.specs.Put.{put}
 use Rattle.meaning_laws.specs.Contexts.{Context, fill}
 use Rattle.meaning_laws.specs.Equations.{Equals, Rewrites, ends, goes_on}
 use Rattle.meaning_laws.specs.NoFix.{NoFix}
-use Rattle.meaning_laws.specs.Laws.{ClosedPut, SamePrograms}
+use Rattle.meaning_laws.specs.Laws.{SamePrograms}
 use Rattle.meaning_laws.proofs.Below.{Below, closed_below, below_closed, put_closed, typed_below}
 use Rattle.meaning_laws.proofs.Alike.{Alike, alike_in}
 use Rattle.meaning_laws.proofs.Running.{value_like, like_value_left, forth, back}
@@ -24,8 +26,8 @@ use Rattle.meaning_laws.proofs.Tait.{no_fix_value}
 pub typed_closed : (m : TermTree) (t : TyTree) → HasType [] m t → Closed m
 typed_closed m t h = below_closed m (typed_below m [] t h)
 
-pub closed_put : ClosedPut
-closed_put = ((λ m n k h. put_closed m n k (closed_below n h)), typed_closed)
+pub closed_put : (m n : TermTree) (k : ℕ) → Closed n → put m k n ≡ subst_at m k n
+closed_put m n k h = put_closed m n k (closed_below n h)
 
 -- terms that are alike mean the same
 alike_means : (m n : TermTree) → Alike m n → Below 0 m → (v : Val) → Means m v ↔ Means n v

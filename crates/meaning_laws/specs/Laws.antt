@@ -14,11 +14,13 @@ use Rattle.meaning_laws.specs.Contexts.{Context, fill}
 use Rattle.meaning_laws.specs.Equations.{Equals, Rewrites}
 use Rattle.meaning_laws.specs.NoFix.{NoFix}
 
--- a closed term that is put is what the meaning puts, and a term with a type in no context is closed
+-- a closed term that is put is what the meaning puts
 abbrev pub ClosedPut : Type 0
-ClosedPut =
-    ((m n : TermTree) (k : ℕ) → Closed n → put m k n ≡ subst_at m k n) ×
-    ((m : TermTree) (t : TyTree) → HasType [] m t → Closed m)
+ClosedPut = (m n : TermTree) (k : ℕ) → Closed n → put m k n ≡ subst_at m k n
+
+-- a term with a type where no variable has one is closed
+abbrev pub TypedClosed : Type 0
+TypedClosed = (m : TermTree) (t : TyTree) → HasType [] m t → Closed m
 
 -- where the left side of an equation stands in a closed term, of any type or of none, the right side gives the same values
 abbrev pub InEveryContext : Type 0

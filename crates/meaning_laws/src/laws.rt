@@ -1,13 +1,14 @@
 //! What holds of terms in every context, and of programs without `fix`.
 
 ghost use Rattle.net_build.specs.Laws.{BuiltSound};
-ghost use Rattle.meaning_laws.specs.Laws.{ClosedPut, InEveryContext, KeepTypes, KeepPrograms, RewritesKeep};
+ghost use Rattle.meaning_laws.specs.Laws.{ClosedPut, TypedClosed, InEveryContext, KeepTypes, KeepPrograms, RewritesKeep};
 ghost use Rattle.meaning_laws.specs.Laws.{NoFixValue, NoFixLength};
 ghost use Rattle.meaning_laws.specs.Examples.{ExamplePut, ExampleContexts, ExampleRewrites, ExampleNoFix};
 
-/// What is put for an index is what the meaning puts, where it is closed; and each term that has a type in no context is closed.
+/// What is put for an index is what the meaning puts, where it is closed; and each term that has a type with no free variable's is closed.
 pub fn law_closed()
-    ensures { ClosedPut }
+    ensures put { ClosedPut }
+    ensures typed { TypedClosed }
 {}
 
 /// Each equation holds in every context: a term with the left side at some place, which is closed, means what the term with the right side
