@@ -1,0 +1,192 @@
+-- Each row makes a move, and a circuit has its answer once the rows up to it are made.
+use Rattle.std.proofs.Common.{◌≡◌, ◌↔◌, ◌≤◌, ◌<◌, ℕ, zero, suc, ◌+◌, Bool, true, false, cond, List, [], ◌∷◌, Option, Some, None}
+use Rattle.std.proofs.Common.{refl, sym, ap, ◌∙◌, subst, ⊎_elim, arith}
+use Rattle.std.proofs.lemmas.Bool.{ltb-true}
+use Rattle.std.proofs.lemmas.Option.{none-some}
+use Rattle.pcf_values.specs.declared.val.Val.{Val}
+use Rattle.pcf_values.specs.Terms.{TermTree, nat}
+use Rattle.pcf_values.specs.Typing.{HasType}
+use Rattle.net_build.specs.Nets.{NetTree}
+use Rattle.net_build.specs.NetOf.{net_of}
+use Rattle.net_build.specs.Sound.{Sound}
+use Rattle.interleave_laws.specs.Runs.{Runs}
+use Rattle.adequacy_laws.specs.Questions.{in_turn, Length}
+use Rattle.adequacy_laws.proofs.Agreeing.{built_runs}
+use Rattle.adequacy_laws.proofs.Counting.{one_count}
+use Rattle.net_rows.proofs.Small.{not_full}
+use Rattle.newest_core.specs.Meaning.{Tells}
+use Rattle.joined_rows.specs.Open.{Amount}
+use Rattle.joined_rows.specs.Compound.{Pointer}
+use Rattle.joined_rows.specs.Ticks.{Named}
+use Rattle.joined_core.specs.Rows.{Site, Seen, Way, onwards, answers_run, answers_fork, JoinedRow, Table, row_moves}
+use Rattle.joined_core.specs.Right.{IsTable}
+use Rattle.joined_core.specs.Circuit.{JoinedToken, JoinedFork, JoinedCircuit, seen_at, row_names, value_of, amount_of, meets_fork, ends}
+use Rattle.joined_core.specs.Circuit.{row_found, row_on, a_row, Room, joined_powered, joined_circuit}
+use Rattle.joined_core.specs.Room.{many_rows}
+use Rattle.joined_core.specs.Time.{one_more, rows_made, RowsMove}
+use Rattle.joined_core.proofs.Told.{RowRuns, row_runs}
+use Rattle.joined_core.proofs.Step.{ends_moves}
+use Rattle.joined_core.proofs.Room.{room_same}
+use Rattle.joined_core.proofs.Follow.{at_power, clocks_keep, keeps_tells}
+
+-- there is a token, or an answer
+abbrev pub Asked : Option JoinedToken → Option Val → Type 0
+Asked None r = (v : Val) × (r ≡ Some v)
+Asked (Some k) r = r ≡ None
+
+ends_asked : (way : Way) (Y : Named) (g : ℕ → Pointer) (v : Amount → Val) (D : JoinedCircuit) → D.result ≡ None → Asked D.live D.result →
+    Asked (ends way Y g v D).live (ends way Y g v D).result
+ends_asked onwards Y g v D r a = r
+ends_asked answers_run Y g v D r a = (value_of v Y.live, refl)
+ends_asked (answers_fork q) Y g v D r a = go D.forks
+  where
+    go : (fs : List JoinedFork) →
+        Asked (meets_fork fs q (value_of v Y.live) D).live (meets_fork fs q (value_of v Y.live) D).result
+    go [] = a
+    go (f ∷ fs) = r
+
+module _ (T : Table) where
+  row_asked : (C : JoinedCircuit) → Asked C.live C.result → Asked (a_row T C).live (a_row T C).result
+  row_asked C h = go C.full
+    where
+      found : (w : Site) (e : Seen) (o : Option JoinedRow) (k : JoinedToken) → C.live ≡ Some k →
+          Asked (row_found w e o k C).live (row_found w e o k C).result
+      found w e None k l = h
+      found w e (Some r) k l =
+          ends_asked r.way r.to (row_names C.store w k.lists r.given) (amount_of (λ n. k.value))
+          (record C { moves = C.moves + row_moves e r }) (subst (λ l. Asked l C.result) l h) h
+
+      on : (l : Option JoinedToken) → C.live ≡ l → Asked (row_on T l C).live (row_on T l C).result
+      on None e = h
+      on (Some k) e = found (T.site k.key) (seen_at (T.site k.key) k) (T.row k.key (seen_at (T.site k.key) k)) k e
+
+      go : (b : Bool) → Asked (cond b C (row_on T C.live C)).live (cond b C (row_on T C.live C)).result
+      go true = h
+      go false = on C.live refl
+
+  many_asked : (k : ℕ) (C : JoinedCircuit) → Asked C.live C.result → Asked (many_rows T k C).live (many_rows T k C).result
+  many_asked zero C h = h
+  many_asked (suc k) C h = many_asked k (a_row T C) (row_asked C h)
+
+  full_rows : (k : ℕ) (C : JoinedCircuit) → C.full ≡ true → (many_rows T k C).full ≡ true
+  full_rows zero C e = e
+  full_rows (suc k) C e = full_rows k (a_row T C) (ap (λ b. (cond b C (row_on T C.live C)).full) e ∙ e)
+
+  -- without a token nothing goes on
+  rests : (k : ℕ) (C : JoinedCircuit) → C.live ≡ None → many_rows T k C ≡ C
+  rests zero C e = refl
+  rests (suc k) C e = ap (many_rows T k) same ∙ rests k C e
+    where
+      go : (b : Bool) → cond b C (row_on T C.live C) ≡ C
+      go true = refl
+      go false = ap (λ l. row_on T l C) e
+
+      same : a_row T C ≡ C
+      same = go C.full
+
+  -- so a token that is there was there
+  was_there : {A : Type 0} (k : ℕ) (C : JoinedCircuit) (l : JoinedToken) → (many_rows T k C).live ≡ Some l → C.live ≡ None → A
+  was_there k C l e f =
+      let no : None ≡ Some l = sym f ∙ ap (λ (D : JoinedCircuit). D.live) (sym (rests k C f)) ∙ e in
+      absurd cc
+
+  -- the rows up to an answer
+  made_more : (k n : ℕ) (C : JoinedCircuit) (l : JoinedToken) → (many_rows T k C).live ≡ Some l → k < n → k < rows_made T n C
+  made_more k zero C l e h = let no : ⊥ = omega arith in absurd no
+  made_more zero (suc n) C l e h = let m = ap (λ l. one_more l (rows_made T n (a_row T C))) e in omega arith
+  made_more (suc k) (suc n) C l e h = go (made_more k n (a_row T C) l e (omega arith)) C.live refl
+    where
+      go : k < rows_made T n (a_row T C) → (o : Option JoinedToken) → C.live ≡ o → suc k < one_more C.live (rows_made T n (a_row T C))
+      go i None f = was_there (suc k) C l e f
+      go i (Some c) f = let m = ap (λ l. one_more l (rows_made T n (a_row T C))) f in omega arith
+
+  made_less : (k n : ℕ) (C : JoinedCircuit) → (many_rows T k C).live ≡ None → rows_made T n C ≤ k
+  made_less k zero C e = omega arith
+  made_less zero (suc n) C e = let m = ap (λ l. one_more l (rows_made T n (a_row T C))) e in omega arith
+  made_less (suc k) (suc n) C e = go (made_less k n (a_row T C) e) C.live refl
+    where
+      go : rows_made T n (a_row T C) ≤ k → (o : Option JoinedToken) → C.live ≡ o → one_more C.live (rows_made T n (a_row T C)) ≤ suc k
+      go i None f = let m = ap (λ l. one_more l (rows_made T n (a_row T C))) f in omega arith
+      go i (Some c) f = let m = ap (λ l. one_more l (rows_made T n (a_row T C))) f in omega arith
+
+  module _ (net : NetTree) (table : IsTable net T) where
+    -- a row makes a move
+    row_more : (C : JoinedCircuit) (c : JoinedToken) → C.live ≡ Some c → (a_row T C).full ≡ false → suc C.moves ≤ (a_row T C).moves
+    row_more C c e h = go C.full refl h
+      where
+        w : Site
+        w = T.site c.key
+
+        s : Seen
+        s = seen_at w c
+
+        found : (o : Option JoinedRow) → T.row c.key s ≡ o → (row_found w s o c C).full ≡ false → suc C.moves ≤ (row_found w s o c C).moves
+        found None q h = not_full h
+        found (Some r) q h =
+            let runs : RowRuns net w c.key s r = row_runs net w c.key s r (table c.key s r q) in
+            let goes : 0 < row_moves s r = ltb-true 0 (row_moves s r) runs.goes in
+            let m = ends_moves r.way r.to (row_names C.store w c.lists r.given) (amount_of (λ n. c.value))
+            (record C { moves = C.moves + row_moves s r }) in
+            omega arith
+
+        go : (b : Bool) → C.full ≡ b → (cond b C (row_on T C.live C)).full ≡ false → suc C.moves ≤ (cond b C (row_on T C.live C)).moves
+        go true q h = not_full (sym q ∙ h)
+        go false q h = subst (λ l. suc C.moves ≤ (row_on T l C).moves) (sym e)
+            (found (T.row c.key s) refl (ap (λ l. (row_on T l C).full) (sym e) ∙ h))
+
+    -- so do as many
+    pub moved : (k : ℕ) (C : JoinedCircuit) (l : JoinedToken) → (many_rows T k C).full ≡ false → (many_rows T k C).live ≡ Some l →
+        C.moves + k ≤ (many_rows T k C).moves
+    moved zero C l h e = omega arith
+    moved (suc k) C l h e = go (moved k (a_row T C) l h e) C.live refl (a_row T C).full refl
+      where
+        go : (a_row T C).moves + k ≤ (many_rows T k (a_row T C)).moves → (o : Option JoinedToken) → C.live ≡ o → (b : Bool) →
+            (a_row T C).full ≡ b → C.moves + suc k ≤ (many_rows T k (a_row T C)).moves
+        go i None f b g = was_there (suc k) C l e f
+        go i (Some c) f true g = not_full (sym (full_rows k (a_row T C) g) ∙ h)
+        go i (Some c) f false g = let a = row_more C c f g in omega arith
+
+pub rows_move : RowsMove
+rows_move net runs T table z mem k l ready live =
+    let same = room_same net T z mem k ready in
+    let m = moved T net table k (joined_powered net mem) l (ap (λ (D : JoinedCircuit). D.full) (sym same) ∙ ready)
+    (ap (λ (D : JoinedCircuit). D.live) (sym same) ∙ live) in
+    let n = ap (λ (D : JoinedCircuit). D.moves) same in
+    omega arith
+
+-- while there is a token the program's length isn't reached, and without one there is the answer
+pub rows_answer : (m : TermTree) (typed : HasType [] m nat) (sound : Sound (net_of m)) (T : Table) → IsTable (net_of m) T →
+    (v : Val) (n : ℕ) → Length (net_of m) v n → (z : Room) (mem : ℕ → ℕ → Pointer) (k : ℕ) →
+    (joined_circuit (net_of m) T z mem k).full ≡ false →
+    ((joined_circuit (net_of m) T z mem k).result ≡ Some v) ↔ (rows_made T n (joined_powered (net_of m) mem) ≤ k)
+rows_answer m typed sound T table v n long z mem k ready =
+    ⊎_elim (λ e. not_full (sym e ∙ ready)) (λ h. go C.live refl (asked) (keeps_tells m typed sound C h))
+    (clocks_keep (net_of m) runs T table z k (joined_powered (net_of m) mem) (at_power (net_of m) mem))
+  where
+    C : JoinedCircuit
+    C = joined_circuit (net_of m) T z mem k
+
+    runs : Runs (net_of m)
+    runs = built_runs m typed sound
+
+    same : C ≡ many_rows T k (joined_powered (net_of m) mem)
+    same = room_same (net_of m) T z mem k ready
+
+    asked : Asked C.live C.result
+    asked = subst (λ (D : JoinedCircuit). Asked D.live D.result) (sym same) (many_asked T k (joined_powered (net_of m) mem) refl)
+
+    go : (o : Option JoinedToken) → C.live ≡ o → Asked C.live C.result → Tells m C.moves C.result C.moves →
+        (C.result ≡ Some v) ↔ (rows_made T n (joined_powered (net_of m) mem) ≤ k)
+    go (Some l) e a t =
+        let none : C.result ≡ None = subst (λ l. Asked l C.result) e a in
+        let beyond : C.moves < n = t.waits.0 none v n long in
+        let fast : k ≤ C.moves = rows_move (net_of m) runs T table z mem k l ready e in
+        let more : k < rows_made T n (joined_powered (net_of m) mem) = made_more T k n (joined_powered (net_of m) mem) l
+        (ap (λ (D : JoinedCircuit). D.live) (sym same) ∙ e) (omega arith) in
+        (λ q. absurd (none-some v (sym none ∙ q)), λ q. let no : ⊥ = omega arith in absurd no)
+    go None e a t =
+        let answer = subst (λ l. Asked l C.result) e a in
+        let one = one_count in_turn (net_of m) answer.0 v C.moves n (t.as_long answer.0 answer.1) long in (
+          λ q. made_less T k n (joined_powered (net_of m) mem) (ap (λ (D : JoinedCircuit). D.live) (sym same) ∙ e),
+          λ q. answer.1 ∙ ap Some one.0,
+        )

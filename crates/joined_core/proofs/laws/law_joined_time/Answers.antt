@@ -1,0 +1,8 @@
+use Rattle.joined_core.proofs.Time.{rows_move, rows_answer}
+use Rattle.joined_core.proofs.laws.law_joined_time.Goals as goal
+
+pub returns-clause-each : goal.returns-clause-each
+returns-clause-each c = rows_move
+
+pub returns-clause-answers : goal.returns-clause-answers
+returns-clause-answers c m h = rows_answer m h (c.law_built_sound.ensures m h)
