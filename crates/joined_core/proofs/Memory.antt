@@ -21,8 +21,7 @@ use Rattle.joined_core.specs.Circuit.{JoinedToken, JoinedFork, JoinedCircuit, lo
 use Rattle.joined_core.specs.Circuit.{value_of}
 use Rattle.joined_core.specs.Circuit.{amount_of, two_words, stored, lands, two_values, fork_lists, fork_names, meets_fork, ends, row_found}
 use Rattle.joined_core.specs.Circuit.{row_on, a_row, joined_powered}
-use Rattle.joined_core.specs.Room.{many_rows, most_cells, most_forks, RoomAlone}
-use Rattle.joined_core.specs.Time.{one_more, rows_made}
+use Rattle.joined_core.specs.Room.{many_rows, most_cells, most_forks, one_more, rows_made, RoomAlone}
 use Rattle.joined_core.specs.Laws.{StandsAt, IsToken, IsLive, IsStack, Keeps}
 use Rattle.joined_core.proofs.Told.{SourceFits, SourcesFit, WayRuns, RowRuns, given_fits, row_runs}
 use Rattle.joined_core.proofs.Fits.{seen_low}

@@ -40,11 +40,11 @@ module _ (T : Table) (z : Room) where
   room_there C f =
       ap (λ b. b || nat_lt z.forks (length C.forks)) (le-ltb z.cells C.store.top f.cells) ∙ le-ltb z.forks (length C.forks) f.forks
 
-  first_cells : (k : ℕ) (C : JoinedCircuit) → C.store.top ≤ most_cells T k C
+  pub first_cells : (k : ℕ) (C : JoinedCircuit) → C.store.top ≤ most_cells T k C
   first_cells zero C = omega arith
   first_cells (suc k) C = omega arith
 
-  first_forks : (k : ℕ) (C : JoinedCircuit) → length C.forks ≤ most_forks T k C
+  pub first_forks : (k : ℕ) (C : JoinedCircuit) → length C.forks ≤ most_forks T k C
   first_forks zero C = omega arith
   first_forks (suc k) C = omega arith
 

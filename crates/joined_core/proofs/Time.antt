@@ -1,7 +1,7 @@
 -- Each row makes a move, and a circuit has its answer once the rows up to it are made.
 use Rattle.std.proofs.Common.{◌≡◌, ◌↔◌, ◌≤◌, ◌<◌, ℕ, zero, suc, ◌+◌, Bool, true, false, cond, List, [], ◌∷◌, Option, Some, None}
-use Rattle.std.proofs.Common.{refl, sym, ap, ◌∙◌, subst, ⊎_elim, arith}
-use Rattle.std.proofs.lemmas.Bool.{ltb-true}
+use Rattle.std.proofs.Common.{refl, sym, ap, ◌∙◌, subst, ⊎_elim, arith, ◌-◌, length}
+use Rattle.std.proofs.lemmas.Bool.{ltb-true, cases_lt}
 use Rattle.std.proofs.lemmas.Option.{none-some}
 use Rattle.pcf_values.specs.declared.val.Val.{Val}
 use Rattle.pcf_values.specs.Terms.{TermTree, nat}
@@ -22,11 +22,11 @@ use Rattle.joined_core.specs.Rows.{Site, Seen, Way, onwards, answers_run, answer
 use Rattle.joined_core.specs.Right.{IsTable}
 use Rattle.joined_core.specs.Circuit.{JoinedToken, JoinedFork, JoinedCircuit, seen_at, row_names, value_of, amount_of, meets_fork, ends}
 use Rattle.joined_core.specs.Circuit.{row_found, row_on, a_row, Room, joined_powered, joined_circuit}
-use Rattle.joined_core.specs.Room.{many_rows}
-use Rattle.joined_core.specs.Time.{one_more, rows_made, RowsMove}
+use Rattle.joined_core.specs.Room.{many_rows, most_cells, most_forks, row_run, one_more, rows_made}
+use Rattle.joined_core.specs.Time.{RowsMove}
 use Rattle.joined_core.proofs.Told.{RowRuns, row_runs}
 use Rattle.joined_core.proofs.Step.{ends_moves}
-use Rattle.joined_core.proofs.Room.{room_same}
+use Rattle.joined_core.proofs.Room.{first_cells, first_forks, room_exactly, room_same}
 use Rattle.joined_core.proofs.Follow.{at_power, clocks_keep, keeps_tells}
 
 -- there is a token, or an answer
@@ -190,3 +190,116 @@ rows_answer m typed sound T table v n long z mem k ready =
           λ q. made_less T k n (joined_powered (net_of m) mem) (ap (λ (D : JoinedCircuit). D.live) (sym same) ∙ e),
           λ q. answer.1 ∙ ap Some one.0,
         )
+
+module _ (T : Table) where
+  -- more rows want as much at least
+  cells_more : (k n : ℕ) (C : JoinedCircuit) → k ≤ n → most_cells T k C ≤ most_cells T n C
+  cells_more zero n C h = first_cells T (record { cells = 0; forks = 0 }) n C
+  cells_more (suc k) zero C h = let no : ⊥ = omega arith in absurd no
+  cells_more (suc k) (suc n) C h = let i = cells_more k n (a_row T C) (omega arith) in omega arith
+
+  forks_more : (k n : ℕ) (C : JoinedCircuit) → k ≤ n → most_forks T k C ≤ most_forks T n C
+  forks_more zero n C h = first_forks T (record { cells = 0; forks = 0 }) n C
+  forks_more (suc k) zero C h = let no : ⊥ = omega arith in absurd no
+  forks_more (suc k) (suc n) C h = let i = forks_more k n (a_row T C) (omega arith) in omega arith
+
+  -- and a pair that lacks its row is met again
+  full_more : (k n : ℕ) (C : JoinedCircuit) → k ≤ n → (many_rows T n C).full ≡ false → (many_rows T k C).full ≡ false
+  full_more zero n C h e = go C.full refl
+    where
+      go : (b : Bool) → C.full ≡ b → C.full ≡ false
+      go true q = not_full (sym (full_rows T n C q) ∙ e)
+      go false q = q
+  full_more (suc k) zero C h e = let no : ⊥ = omega arith in absurd no
+  full_more (suc k) (suc n) C h e = full_more k n (a_row T C) (omega arith) e
+
+  many_more : (n k : ℕ) (C : JoinedCircuit) → many_rows T (n + k) C ≡ many_rows T k (many_rows T n C)
+  many_more zero k C = let e : 0 + k ≡ k = omega arith in ap (λ j. many_rows T j C) e
+  many_more (suc n) k C =
+      let e : suc n + k ≡ suc (n + k) = omega arith in
+      ap (λ j. many_rows T j C) e ∙ many_more n k (a_row T C)
+
+  -- what rests wants no more
+  cells_rest : (n k : ℕ) (C : JoinedCircuit) → (many_rows T n C).live ≡ None → most_cells T (n + k) C ≤ most_cells T n C
+  cells_rest zero k C e = let z : 0 + k ≡ k = omega arith in subst (λ j. most_cells T j C ≤ C.store.top) (sym z) (go k C e)
+    where
+      go : (k : ℕ) (C : JoinedCircuit) → C.live ≡ None → most_cells T k C ≤ C.store.top
+      go zero C e = omega arith
+      go (suc k) C e =
+          let i : most_cells T k (a_row T C) ≤ C.store.top =
+          subst (λ D. most_cells T k D ≤ C.store.top) (sym (rests T 1 C e)) (go k C e) in
+          omega arith
+  cells_rest (suc n) k C e =
+      let z : suc n + k ≡ suc (n + k) = omega arith in
+      let i = cells_rest n k (a_row T C) e in
+      let m : most_cells T (suc (n + k)) C ≤ most_cells T (suc n) C = omega arith in
+      subst (λ j. most_cells T j C ≤ most_cells T (suc n) C) (sym z) m
+
+  forks_rest : (n k : ℕ) (C : JoinedCircuit) → (many_rows T n C).live ≡ None → most_forks T (n + k) C ≤ most_forks T n C
+  forks_rest zero k C e = let z : 0 + k ≡ k = omega arith in subst (λ j. most_forks T j C ≤ length C.forks) (sym z) (go k C e)
+    where
+      go : (k : ℕ) (C : JoinedCircuit) → C.live ≡ None → most_forks T k C ≤ length C.forks
+      go zero C e = omega arith
+      go (suc k) C e =
+          let i : most_forks T k (a_row T C) ≤ length C.forks =
+          subst (λ D. most_forks T k D ≤ length C.forks) (sym (rests T 1 C e)) (go k C e) in
+          omega arith
+  forks_rest (suc n) k C e =
+      let z : suc n + k ≡ suc (n + k) = omega arith in
+      let i = forks_rest n k (a_row T C) e in
+      let m : most_forks T (suc (n + k)) C ≤ most_forks T (suc n) C = omega arith in
+      subst (λ j. most_forks T j C ≤ most_forks T (suc n) C) (sym z) m
+
+  made_within : (n : ℕ) (C : JoinedCircuit) → rows_made T n C ≤ n
+  made_within zero C = omega arith
+  made_within (suc n) C = go C.live (made_within n (a_row T C))
+    where
+      go : (o : Option JoinedToken) → rows_made T n (a_row T C) ≤ n → one_more o (rows_made T n (a_row T C)) ≤ suc n
+      go None i = omega arith
+      go (Some c) i = omega arith
+
+-- what is enough up to the program's length is enough for ever, and there the answer is
+pub rows_compute : (m : TermTree) (typed : HasType [] m nat) (sound : Sound (net_of m)) (T : Table) → IsTable (net_of m) T →
+    (v : Val) (n : ℕ) → Length (net_of m) v n → (z : Room) (mem : ℕ → ℕ → Pointer) → (row_run (net_of m) T mem n).full ≡ false →
+    most_cells T n (joined_powered (net_of m) mem) ≤ z.cells → most_forks T n (joined_powered (net_of m) mem) ≤ z.forks →
+    (k : ℕ) → rows_made T n (joined_powered (net_of m) mem) ≤ k →
+    ((joined_circuit (net_of m) T z mem k).full ≡ false) × ((joined_circuit (net_of m) T z mem k).result ≡ Some v)
+rows_compute m typed sound T table v n long z mem ready cells forks k late =
+    (there, (rows_answer m typed sound T table v n long z mem k there).1 late)
+  where
+    P : JoinedCircuit
+    P = joined_powered (net_of m) mem
+
+    -- at the program's length
+    at_end : (joined_circuit (net_of m) T z mem n).full ≡ false
+    at_end = (room_exactly (net_of m) T z mem n).1 (ready, cells, forks)
+
+    done : (many_rows T n P).result ≡ Some v
+    done = ap (λ (D : JoinedCircuit). D.result) (sym (room_same (net_of m) T z mem n at_end))
+        ∙ (rows_answer m typed sound T table v n long z mem n at_end).1 (made_within T n P)
+
+    none : (many_rows T n P).live ≡ None
+    none = go (many_rows T n P).live refl (many_asked T n P refl)
+      where
+        go : (o : Option JoinedToken) → (many_rows T n P).live ≡ o → Asked (many_rows T n P).live (many_rows T n P).result →
+            (many_rows T n P).live ≡ None
+        go None e a = e
+        go (Some l) e a = absurd (none-some v (sym (subst (λ l. Asked l (many_rows T n P).result) e a) ∙ done))
+
+    -- before it, and behind it
+    before : k ≤ n → (joined_circuit (net_of m) T z mem k).full ≡ false
+    before l =
+        let a = cells_more T k n P l in
+        let b = forks_more T k n P l in
+        (room_exactly (net_of m) T z mem k).1 (full_more T k n P l ready, omega arith, omega arith)
+
+    behind : (j : ℕ) → n + j ≡ k → (joined_circuit (net_of m) T z mem k).full ≡ false
+    behind j e =
+        let a = cells_rest T n j P none in
+        let b = forks_rest T n j P none in
+        let same : many_rows T (n + j) P ≡ many_rows T n P = many_more T n j P ∙ rests T j (many_rows T n P) none in
+        subst (λ k. (joined_circuit (net_of m) T z mem k).full ≡ false) e
+        ((room_exactly (net_of m) T z mem (n + j)).1 (ap (λ (D : JoinedCircuit). D.full) same ∙ ready, omega arith, omega arith))
+
+    there : (joined_circuit (net_of m) T z mem k).full ≡ false
+    there = ⊎_elim (λ l. before (omega arith)) (λ l. behind (k - n) (omega arith)) (cases_lt k n)

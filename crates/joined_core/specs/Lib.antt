@@ -10,10 +10,10 @@ pub mod Listed
 pub mod Circuit
 -- The statements of the laws.
 pub mod Laws
+-- It is full just where a pair has no row or there is too little room.
+pub mod Room
 -- How many cycles it takes.
 pub mod Time
--- It is full just where there is too little room.
-pub mod Room
 -- Keys as numbers.
 pub mod Numbers
 -- examples that the prover computes

@@ -1,14 +1,13 @@
 -- A circuit is full just where a pair has no row or there is too little room: the statements of `law_joined_room`
 -- and `law_joined_memory`.
 -- How many cells and forks are in use at once is told of the rows alone, which have no sizes; no circuit takes part in it.
-use Rattle.std.specs.Prelude.{◌≡◌, ◌↔◌, ◌≤◌, ℕ, zero, suc, max, false, length}
+use Rattle.std.specs.Prelude.{◌≡◌, ◌↔◌, ◌≤◌, ℕ, zero, suc, max, false, length, Option, Some, None}
 use Rattle.net_build.specs.Nets.{NetTree}
 use Rattle.interleave_laws.specs.Runs.{Runs}
 use Rattle.joined_rows.specs.Compound.{Pointer}
 use Rattle.joined_core.specs.Rows.{Table}
 use Rattle.joined_core.specs.Right.{IsTable}
-use Rattle.joined_core.specs.Time.{rows_made}
-use Rattle.joined_core.specs.Circuit.{JoinedCircuit, a_row, Room, joined_powered, joined_circuit}
+use Rattle.joined_core.specs.Circuit.{JoinedToken, JoinedCircuit, a_row, Room, joined_powered, joined_circuit}
 
 -- so many rows, whatever room they take
 abbrev pub many_rows : Table → ℕ → JoinedCircuit → JoinedCircuit
@@ -28,6 +27,16 @@ most_cells T (suc k) C = max C.store.top (most_cells T k (a_row T C))
 abbrev pub most_forks : Table → ℕ → JoinedCircuit → ℕ
 most_forks T zero C = length C.forks
 most_forks T (suc k) C = max (length C.forks) (most_forks T k (a_row T C))
+
+-- one more, where there is a token
+abbrev pub one_more : Option JoinedToken → ℕ → ℕ
+one_more None n = 0
+one_more (Some k) n = suc n
+
+-- how many of the next n rows have a token: those up to the answer
+abbrev pub rows_made : Table → ℕ → JoinedCircuit → ℕ
+rows_made T zero C = 0
+rows_made T (suc n) C = one_more C.live (rows_made T n (a_row T C))
 
 -- it isn't full just where each pair up to there has a row, and no more cells are in use and no more forks open than there are
 abbrev pub RoomExactly : Type 0

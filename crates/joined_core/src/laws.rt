@@ -5,7 +5,7 @@ ghost use Rattle.joined_core.specs.Recursive.{ExampleRecursive, ExampleRight};
 ghost use Rattle.joined_core.specs.Listed.{ListedTable};
 ghost use Rattle.joined_core.specs.Laws.{JoinedStep, JoinedFollow, JoinedMeans};
 ghost use Rattle.joined_core.specs.Room.{RoomExactly, RoomSame, RoomAlone};
-ghost use Rattle.joined_core.specs.Time.{RowsMove, RowsAnswer};
+ghost use Rattle.joined_core.specs.Time.{RowsMove, RowsAnswer, RowsCompute};
 ghost use Rattle.joined_core.specs.Numbers.{NumbersDiffer, NumbersFind};
 
 use net_build::law_built_sound;
@@ -56,10 +56,12 @@ pub fn law_joined_memory()
     ensures { RoomAlone }
 {}
 
-/// Each cycle makes a move at least, and the circuit of a program has its value from that cycle on which the rows tell.
+/// Each cycle makes a move at least, and the circuit of a program has its value from that cycle on which the rows tell. Where the rows up
+/// to the program's length lack no pair and there is room for them, it has it for ever.
 pub fn law_joined_time()
     ensures each { RowsMove }
     ensures answers { RowsAnswer }
+    ensures computes { RowsCompute }
 {
     law_built_sound();
 }
