@@ -34,7 +34,7 @@ use Rattle.joined_core.specs.Rows.{Key, key_of, Site, nowhere, on_sigs, on_boxes
 use Rattle.joined_core.specs.Rows.{given_at, Second, Way, onwards, answers_run, answers_fork, JoinedRow, Table, test_moves, way_moves}
 use Rattle.joined_core.specs.Rows.{row_moves}
 use Rattle.joined_core.specs.Right.{test_by, found_test, begins, found_is_test, plain_ticks, alone, right_question, after_left, after_join}
-use Rattle.joined_core.specs.Right.{found_join, wire_of, has_depth, deep, IsTable}
+use Rattle.joined_core.specs.Right.{found_join, wire_at, has_depth, deep, IsTable}
 use Rattle.joined_core.specs.Circuit.{JoinedToken, JoinedFork, JoinedCircuit, pointer_at, looked_at, seen_at, row_names, value_of}
 use Rattle.joined_core.specs.Circuit.{amount_of}
 use Rattle.joined_core.specs.Circuit.{lands, two_values, fork_lists, fork_names, meets_fork, ends, joined_row, row_found, row_on, a_row}
@@ -328,15 +328,15 @@ deep_long : (net : NetTree) (s : Spot) (p : Place) → deep net s ≡ true → s
     length s.boxes ≡ length (boxes_at p)
 deep_long net s p h e placed = go p e placed
   where
-    at_wire : (i : ℕ) (w : WireTree) (t : Boxes) → wire_of s.channel ≡ i → slice_get net.wires i ≡ Some w → length t ≡ w.depth →
+    at_wire : (i : ℕ) (w : WireTree) (t : Boxes) → wire_at s.channel ≡ i → slice_get net.wires i ≡ Some w → length t ≡ w.depth →
         length s.boxes ≡ length t
     at_wire i w t c o l =
-        let there : slice_get net.wires (wire_of s.channel) ≡ Some w = ap (slice_get net.wires) c ∙ o in
+        let there : slice_get net.wires (wire_at s.channel) ≡ Some w = ap (slice_get net.wires) c ∙ o in
         eqb-true (length s.boxes) w.depth (ap (λ o. has_depth o (length s.boxes)) (sym there) ∙ h) ∙ sym l
 
     go : (p : Place) → s.channel ≡ channel_of p → Placed net p → length s.boxes ≡ length (boxes_at p)
-    go (up i m t) e w = at_wire i w.0 t (ap wire_of e) w.1 w.2.0
-    go (down i m t) e w = at_wire i w.0 t (ap wire_of e) w.1 w.2.0
+    go (up i m t) e w = at_wire i w.0 t (ap wire_at e) w.1 w.2.0
+    go (down i m t) e w = at_wire i w.0 t (ap wire_at e) w.1 w.2.0
 
 -- a row's end counts no more moves than the row
 pub ends_moves : (way : Way) (Y : Named) (g : ℕ → Pointer) (v : Amount → Val) (D : JoinedCircuit) → (ends way Y g v D).moves ≡ D.moves

@@ -11,6 +11,7 @@ use Rattle.joined_rows.specs.Ticks.{waiting, left}
 use Rattle.joined_core.specs.Rows.{key, Site, on_boxes, nothing, shaped, onwards, answers_run, answers_fork, JoinedRow}
 use Rattle.joined_core.specs.Right.{alone}
 use Rattle.joined_core.specs.Listed.{Entry, entry, listed, right_table}
+use Rattle.joined_core.specs.Numbers.{key_number}
 use Rattle.joined_core.specs.Circuit.{Room, joined_circuit}
 
 -- up to the number, with the right question left at the fork
@@ -94,3 +95,17 @@ ExampleTable =
 -- its rows are right of the net
 abbrev pub ExampleRows : Type 0
 ExampleRows = right_table doubled_net sites entries ≡ true
+
+-- a row that says one move less isn't, nor is a table that doesn't look at the box
+abbrev pub ExampleRefused : Type 0
+ExampleRefused =
+    (right_table doubled_net sites (entry (key false (rises 9) []) nothing (record up_left { moves = 7 }) ∷ []) ≡ false)
+    × (right_table doubled_net [] entries ≡ false)
+
+-- its keys' numbers; the last one has no row
+abbrev pub ExampleNumbers : Type 0
+ExampleNumbers =
+    (key_number entries (key false (rises 9) []) ≡ 0)
+    × (key_number entries (key false (rises 7) []) ≡ 1)
+    × (key_number entries (key true (falls 9) []) ≡ 3)
+    × (key_number entries (key true (falls 0) []) ≡ 4)

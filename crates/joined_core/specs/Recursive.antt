@@ -12,7 +12,8 @@ use Rattle.joined_core.specs.Rows.{is_R, is_L, is_sig, key, Site, on_sigs, on_bo
 use Rattle.joined_core.specs.Rows.{a_word, onwards, answers_run, answers_fork, JoinedRow}
 use Rattle.joined_core.specs.Right.{alone}
 use Rattle.joined_core.specs.Listed.{Entry, entry, listed, right_table}
-use Rattle.joined_core.specs.Circuit.{Room, joined_circuit}
+use Rattle.joined_core.specs.Circuit.{Room, joined_powered, joined_circuit}
+use Rattle.joined_core.specs.Room.{most_cells, most_forks, rows_made}
 use Rattle.joined_core.specs.Example.{room, junk}
 
 -- up from the root through the call to its test, and to the number that this asks for
@@ -162,3 +163,10 @@ ExampleRecursive =
 -- its rows are right of the net
 abbrev pub ExampleRight : Type 0
 ExampleRight = right_table (recursive_net 2) sites entries ≡ true
+
+-- the most cells and forks in use, and the rows up to the answer, counted along the rows alone
+abbrev pub ExampleCounted : Type 0
+ExampleCounted = let C = joined_powered (recursive_net 2) junk in
+    (most_cells (listed sites entries) 188 C ≡ 4)
+    × (most_forks (listed sites entries) 188 C ≡ 2)
+    × (rows_made (listed sites entries) 188 C ≡ 19)

@@ -1,7 +1,7 @@
 //! What holds of the circuit over compound cells.
 
-ghost use Rattle.joined_core.specs.Example.{ExampleTable, ExampleRows};
-ghost use Rattle.joined_core.specs.Recursive.{ExampleRecursive, ExampleRight};
+ghost use Rattle.joined_core.specs.Example.{ExampleTable, ExampleRows, ExampleRefused, ExampleNumbers};
+ghost use Rattle.joined_core.specs.Recursive.{ExampleRecursive, ExampleRight, ExampleCounted};
 ghost use Rattle.joined_core.specs.Listed.{ListedTable};
 ghost use Rattle.joined_core.specs.Laws.{JoinedStep, JoinedFollow, JoinedMeans};
 ghost use Rattle.joined_core.specs.Room.{RoomExactly, RoomSame, RoomAlone};
@@ -10,16 +10,21 @@ ghost use Rattle.joined_core.specs.Numbers.{NumbersDiffer, NumbersFind};
 
 use net_build::law_built_sound;
 
-/// A table of four rows answers a program of thirty moves in four cycles, and its rows are right of the net.
+/// A table of four rows answers a program of thirty moves in four cycles. Its rows are right of the net, which two like them aren't, and
+/// its keys have numbers.
 pub fn law_example_table()
     ensures computes { ExampleTable }
     ensures right { ExampleRows }
+    ensures refused { ExampleRefused }
+    ensures numbers { ExampleNumbers }
 {}
 
-/// A recursion in ten rows, with cells, looks, tests and two open forks: what is enough, and that its rows are right of the net.
+/// A recursion in ten rows, with cells, looks, tests and two open forks, is answered with room for four cells and two forks, and not with
+/// less; so it is counted along its rows, which are right of the net.
 pub fn law_example_recursive()
     ensures computes { ExampleRecursive }
     ensures right { ExampleRight }
+    ensures counted { ExampleCounted }
 {}
 
 /// A list of rows that the check takes is a right table.

@@ -6,3 +6,6 @@ returns-clause-computes c = (refl, refl, refl, refl)
 
 pub returns-clause-right : goal.returns-clause-right
 returns-clause-right c = refl
+
+pub returns-clause-counted : goal.returns-clause-counted
+returns-clause-counted c = (refl, refl, refl)
