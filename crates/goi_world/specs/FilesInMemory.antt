@@ -2,13 +2,14 @@
 --
 -- They are a list of names with bytes, of which nothing ever changes, beside the numbers of the calls that fail and two
 -- counts. A call on a name that no file has fails in any case: it counts as a call, but never as a fault.
-use Rattle.std.specs.Prelude.{ℕ, ◌-◌, min, Bool, ◌&&◌, ◌||◌, List, ◌++◌, length, map, take, drop, Option, is_none, is_some, if◌then◌else◌}
-use Rattle.std.specs.Prelude.{Vec, [], ◌∷◌, None, Some}
+use Rattle.std.specs.Prelude.{◌≡◌, ℕ, ◌-◌, min, Bool, IsTrue, ◌&&◌, ◌||◌, List, ◌++◌, length, map, take, drop, Option, is_none, is_some}
+use Rattle.std.specs.Prelude.{Vec, [], ◌∷◌, None, Some, if◌then◌else◌}
 use Rattle.std.specs.declared.alloc.Global.{Global}
-use Rattle.goi_world.specs.Outside.{count_after}
+use Rattle.std.proofs.Common.{sym, subst}
+use Rattle.goi_world.specs.Outside.{Reading, count_after}
 use Rattle.goi_world.specs.Failing.{listed, none_listed}
 use Rattle.goi_world.specs.Seen.{FilesState}
-use Rattle.goi_world.specs.Told.{files_seen}
+use Rattle.goi_world.specs.Told.{files_seen, Fits, untold}
 use Rattle.std.specs.Str.{bytes_eq}
 
 -- the files, how many bytes a read gives at most, which calls fail, and how many calls and faults there were
@@ -66,3 +67,20 @@ after_read m name = record m {
 -- what is seen of them: each read is certain where no call is listed to fail
 abbrev pub memory_files_seen : FilesInMemory → FilesState
 memory_files_seen m = files_seen (told_by m) (lacked_by m) m.faults (none_listed m.fails)
+
+-- one state became another by this read, which gave what stands in the file
+pub record ReadOnce (m : FilesInMemory) (r : Reading) (now : FilesInMemory) : Type 0 where
+  pub after : now ≡ after_read m r.name
+  pub fits : Fits (told_by m) r
+
+-- files in memory hold the same before a read and after it
+pub fits_once : (old : FilesInMemory) (r : Reading) (new : FilesInMemory) (told : List ℕ → Option (List ℕ)) → ReadOnce old r new →
+    told ≡ told_by new → (told ≡ told_by old) × Fits told r
+fits_once old r new told h e =
+    let same : told ≡ told_by old = subst (λ (m : FilesInMemory). told ≡ told_by m) h.after e in
+    (same, subst (λ (t : List ℕ → Option (List ℕ)). Fits t r) (sym same) h.fits)
+
+-- a name that no file has isn't told
+pub lacked_untold : (m : FilesInMemory) (told : List ℕ → Option (List ℕ)) (name : List ℕ) → told ≡ told_by m → IsTrue (lacked_by m name) →
+    told name ≡ None
+lacked_untold m told name e h = subst (λ (t : List ℕ → Option (List ℕ)). t name ≡ None) (sym e) (untold (told_by m name) h)

@@ -12,6 +12,10 @@ pub record FilesState : Type 0 where
   pub faults : ℕ
   pub steady : Bool
 
+-- the same of files that hold this
+abbrev pub holding : (List ℕ → Option (List ℕ)) → FilesState → FilesState
+holding told files = record files { told = told }
+
 -- what stays as it was, whatever is read
 pub record FilesKept (old new : FilesState) : Type 0 where
   pub told : new.told ≡ old.told

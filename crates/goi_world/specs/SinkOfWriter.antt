@@ -1,23 +1,28 @@
--- What is known of a sink over a writer of std: two counts, which stand still at their last number.
-use Rattle.std.specs.Prelude.{ℕ, Option, None, Some}
-use Rattle.goi_world.specs.Outside.{count_after}
+-- What is known of a sink over a writer of std: the writes that were made, with the pieces that were handed over and how much of each was
+-- taken, and a count of faults, which stands still at its last number.
+use Rattle.std.specs.Prelude.{ℕ, List, [], ◌∷◌, Option, None, Some}
+use Rattle.goi_world.specs.Outside.{Writing, count_after, handed}
 use Rattle.goi_world.specs.Seen.{SinkState}
 use Rattle.goi_world.specs.Told.{sink_seen}
 
--- how many writes there were, and how many of them failed
+-- the writes, the last of them first, and how many failed
 pub record SinkOfWriter : Type 0 where
-  pub writes : ℕ
+  pub past : List Writing
   pub faults : ℕ
 
 -- before the first write
 abbrev pub unwritten : SinkOfWriter
-unwritten = record { writes = 0; faults = 0 }
+unwritten = record { past = []; faults = 0 }
 
--- a write more, which took so many bytes or failed
-abbrev pub one_write : SinkOfWriter → Option ℕ → SinkOfWriter
-one_write sink (Some n) = record sink { writes = count_after sink.writes }
-one_write sink None = record { writes = count_after sink.writes; faults = count_after sink.faults }
+-- the count of faults after a write that took so many bytes, or failed
+abbrev pub faults_after : ℕ → Option ℕ → ℕ
+faults_after faults (Some n) = faults
+faults_after faults None = count_after faults
 
--- what is seen of it: no bytes are known, and no write is certain
+-- a write more
+abbrev pub one_write : SinkOfWriter → Writing → SinkOfWriter
+one_write sink w = record { past = w ∷ sink.past; faults = faults_after sink.faults w.taken }
+
+-- what is seen of it: what was written is what the writer took, and no write is certain
 abbrev pub writer_sink_seen : SinkOfWriter → SinkState
-writer_sink_seen sink = sink_seen None sink.faults 0
+writer_sink_seen sink = sink_seen (Some (handed sink.past)) sink.faults 0

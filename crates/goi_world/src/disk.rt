@@ -1,9 +1,11 @@
 //! Files of the system.
 
-ghost use Rattle.std.specs.Prelude.{◌≡◌, ◌≤◌, OnOk, OnErr, IfOk, length};
+ghost use Rattle.std.specs.Prelude.{◌≡◌, ◌≤◌, IfOk, length};
 ghost use Rattle.std.proofs.Common.{rules};
-ghost use Rattle.goi_world.specs.FilesOnDisk.{unread_files, one_read, one_failed};
+ghost use Rattle.goi_world.specs.Told.{reading};
+ghost use Rattle.goi_world.specs.FilesOnDisk.{unread_files, one_read};
 
+use crate::past::{Past, Turn};
 use crate::{Failed, Files};
 use std::io::{Read, Seek, SeekFrom};
 use std::marker::Model;
@@ -17,7 +19,7 @@ struct Opened<F: Drop> {
     at: u64,
 }
 
-/// The files of the system, of which nothing is known but how many reads there were, and how many failed.
+/// The files of the system, of which nothing is known but what was read: each read, with the bytes that it gave, and how many failed.
 ///
 /// The file that was read last stays open, and a read that goes on where the last one ended doesn't seek. So a pipe can be read, from
 /// its beginning on; a read of a pipe at any other place fails.
@@ -25,7 +27,7 @@ struct Opened<F: Drop> {
 pub struct DiskFiles<'a, R: rt::Files + AllocGlobal> {
     system: &'a R,
     opened: Option<Opened<R::File>>,
-    reads: u64,
+    past: Past,
     faults: u64,
 }
 
@@ -34,7 +36,7 @@ impl<'a, R: rt::Files + AllocGlobal> Model for DiskFiles<'a, R> {
 
     ghost Value = { FilesOnDisk };
 
-    ghost view = { λ files. record { reads = files.reads; faults = files.faults } };
+    ghost view = { λ files. record { past = files.past.turns.reads; faults = files.faults } };
 }
 
 impl<'a, R: rt::Files + AllocGlobal> DiskFiles<'a, R> {
@@ -45,35 +47,45 @@ impl<'a, R: rt::Files + AllocGlobal> DiskFiles<'a, R> {
         DiskFiles {
             system: rt,
             opened: None,
-            reads: 0,
+            past: Past::none(),
             faults: 0,
         }
     }
 }
 
 impl<'a, R: rt::Files + AllocGlobal> Files for DiskFiles<'a, R> {
-    ghost use Rattle.goi_world.specs.Outside.{count_after};
-    ghost use Rattle.goi_world.specs.FilesOnDisk.{disk_files_seen};
+    ghost use Rattle.goi_world.specs.Told.{AllFit};
+    ghost use Rattle.goi_world.specs.FilesOnDisk.{disk_files_seen, one_read, fits_behind, fits_none};
 
     ghost seen = { disk_files_seen };
 
-    ghost reads = { λ before _ now. now.reads ≡ count_after before.reads };
+    ghost reads = { λ before r now. now ≡ one_read before r };
 
-    ghost lacked_untold = { λ _ _ _. Prim.search rules };
+    ghost fits = { λ files told. AllFit told files.past };
+
+    ghost fits_each = { fits_behind };
+
+    ghost told_fits = { λ files. fits_none files.past };
+
+    ghost lacked_untold = { λ _ _ _ _. Prim.search rules };
 
     // A missing file is a fault like any other.
     fn read(&mut self, name: &str, at: u64, buf: &mut [u8]) -> Result<usize, Failed>
         ensures bound { IfOk result (λ n. n ≤ length buf.new) }
-        ensures ok { OnOk result (self.new ≡ one_read self.old) }
-        ensures err { OnErr result (self.new ≡ one_failed self.old) }
-        ensures counted { self.new.reads ≡ count_after self.old.reads }
+        ensures after { self.new ≡ one_read self.old (reading name.now at (length buf.old) result buf.new) }
         ensures later { self.old.faults ≤ self.new.faults }
     {
-        self.reads = self.reads.saturating_add(1);
+        let room = buf.len();
         match read_on(self.system, &mut self.opened, name, at, buf) {
-            Ok(count) => Ok(count),
+            Ok(count) => {
+                self.past = self.past.with(&Turn::Read(name, at, room, Ok(count), buf));
+                Ok(count)
+            }
             Err(_) => {
                 self.faults = self.faults.saturating_add(1);
+                self.past = self
+                    .past
+                    .with(&Turn::Read(name, at, room, Err(Failed), buf));
                 Err(Failed)
             }
         }

@@ -2,7 +2,7 @@
 
 ghost use Rattle.std.specs.Prelude.{◌≡◌, ◌↔◌, ◌-◌, ◌++◌, ◌≤◌, IsTrue, length, min, take, drop, IsErr, OnErr, IfOk, IfSome};
 ghost use Rattle.std.specs.Prelude.{MatchOption, None, Some};
-ghost use Rattle.goi_world.specs.Told.{IsPiece};
+ghost use Rattle.goi_world.specs.Told.{reading, Fits};
 ghost use Rattle.goi_world.specs.FilesInMemory.{files_of, new_files, told_by, read_fails, read_length, read_into, after_read, bytes_of};
 
 use crate::{Failed, Files};
@@ -58,14 +58,21 @@ impl MemoryFiles {
 }
 
 impl Files for MemoryFiles {
-    ghost use Rattle.goi_world.specs.Told.{untold};
-    ghost use Rattle.goi_world.specs.FilesInMemory.{memory_files_seen, told_by, after_read};
+    ghost use Rattle.std.specs.Prelude.{refl};
+    ghost use Rattle.goi_world.specs.FilesInMemory.{memory_files_seen, told_by, ReadOnce, fits_once, lacked_untold};
 
     ghost seen = { memory_files_seen };
 
-    ghost reads = { λ before r now. now ≡ after_read before r.name };
+    ghost reads = { ReadOnce };
 
-    ghost lacked_untold = { λ m name. untold (told_by m name) };
+    // They hold what they hold.
+    ghost fits = { λ m told. told ≡ told_by m };
+
+    ghost fits_each = { fits_once };
+
+    ghost told_fits = { λ _. refl };
+
+    ghost lacked_untold = { lacked_untold };
 
     fn read(&mut self, name: &str, at: u64, buf: &mut [u8]) -> Result<usize, Failed>
         ensures after { self.new ≡ after_read self.old name.now }
@@ -74,7 +81,7 @@ impl Files for MemoryFiles {
             (n ≡ read_length self.old bytes at buf.old) × (buf.new ≡ read_into self.old bytes at buf.old))) }
         ensures untouched { OnErr result (buf.new ≡ buf.old) }
         // What any files promise, where the clauses above don't show it by themselves.
-        ensures bytes { IfOk result (λ n. IfSome (told_by self.old name.now) (λ bytes. IsPiece bytes at n buf.new)) }
+        ensures fits { Fits (told_by self.old) (reading name.now at (length buf.old) result buf.new) }
         ensures later { self.old.faults ≤ self.new.faults }
     {
         self.calls = self.calls.saturating_add(1);

@@ -1,8 +1,8 @@
 //! What reads and writes may be relied on for, whatever the device.
 
-ghost use Rattle.std.specs.Prelude.{◌≡◌, ◌⊎◌, ◌+◌, ◌<◌, ◌≤◌, List, ℕ, IsTrue, length, take, None, IsOk, IsErr, OnOk, OnErr, IfOk, IfSome};
+ghost use Rattle.std.specs.Prelude.{◌≡◌, ◌⊎◌, ◌+◌, ◌<◌, ◌≤◌, List, ℕ, IsTrue, length, take, Option, None, IsOk, IsErr, OnOk, OnErr, IfOk};
 ghost use Rattle.goi_world.specs.Outside.{Rose, Reading, Writing, with_more};
-ghost use Rattle.goi_world.specs.Told.{reading, writing, IsPiece};
+ghost use Rattle.goi_world.specs.Told.{reading, writing, Fits};
 ghost use Rattle.goi_world.specs.Seen.{FilesState, FilesKept, SinkState};
 
 /// The one answer of a device that failed.
@@ -14,10 +14,13 @@ pub trait Files {
     /// What is seen of the files.
     ghost seen: { Self → FilesState };
 
-    /// The first state became the second by this one read.
+    /// The first state became the second by this one read, which gave these bytes.
     ///
     /// Generic code can show it by reading alone, so that a contract can list all reads that were made.
     ghost reads: { Self → Reading → Self → Type 0 };
+
+    /// All that was read so far is of files that hold this, where it tells what they hold.
+    ghost fits: { Self → (List ℕ → Option (List ℕ)) → Type 0 };
 
     /// Reads bytes of a file from the offset `at` on, and answers how many.
     ///
@@ -28,17 +31,24 @@ pub trait Files {
     /// [`Failed`], where no file has this name or where the device failed. What the buffer holds then isn't said.
     fn read(&mut self, name: &str, at: u64, buf: &mut [u8]) -> Result<usize, Failed>
         ensures kept { FilesKept (seen self.old) (seen self.new) }
-        ensures reads { reads self.old (reading name.now at (length buf.old)) self.new }
+        ensures reads { reads self.old (reading name.now at (length buf.old) result buf.new) self.new }
         ensures bound { IfOk result (λ n. n ≤ length buf.new) }
-        ensures bytes { IfOk result (λ n. IfSome ((seen self.old).told name.now) (λ bytes. IsPiece bytes at n buf.new)) }
         ensures lacked { IsTrue ((seen self.old).lacks name.now) → IsErr result }
         ensures later { (seen self.old).faults ≤ (seen self.new).faults }
         ensures ok { OnOk result ((seen self.new).faults ≡ (seen self.old).faults) }
         ensures failed { OnErr result (IsTrue ((seen self.old).lacks name.now) ⊎ Rose (seen self.old).faults (seen self.new).faults) }
         ensures sure { IsTrue (seen self.old).steady → IsTrue ((seen self.old).lacks name.now) ⊎ IsOk result };
 
+    /// What fits after a read fits before it, and the read fits it.
+    ghost fits_each: { (old : Self) (r : Reading) (new : Self) (told : List ℕ → Option (List ℕ)) → reads old r new → fits new told →
+        fits old told × Fits told r };
+
+    /// What is told beforehand fits.
+    ghost told_fits: { (files : Self) → fits files (seen files).told };
+
     /// What is lacked isn't told.
-    ghost lacked_untold: { (files : Self) (name : List ℕ) → IsTrue ((seen files).lacks name) → (seen files).told name ≡ None };
+    ghost lacked_untold: { (files : Self) (told : List ℕ → Option (List ℕ)) (name : List ℕ) → fits files told →
+        IsTrue ((seen files).lacks name) → told name ≡ None };
 }
 
 /// A place that bytes are written to.

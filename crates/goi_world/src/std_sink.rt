@@ -1,18 +1,20 @@
 //! Writers of std.
 
 ghost use Rattle.std.specs.Prelude.{◌≡◌, ◌<◌, ◌≤◌, IfOk, length};
-ghost use Rattle.goi_world.specs.Told.{taken_by};
+ghost use Rattle.goi_world.specs.Told.{writing};
 ghost use Rattle.goi_world.specs.SinkOfWriter.{unwritten, one_write};
 
+use crate::past::{Past, Turn};
 use crate::{Failed, Sink};
 use std::io::Write;
 use std::marker::Model;
 
-/// A sink over a writer, of which nothing is known but how many writes there were, and how many failed.
+/// A sink over a writer, of which nothing is known but what was written: each piece that was handed over, with how much of it was taken,
+/// and how many writes failed.
 #[derive(Drop)]
 pub struct StdSink<W: Write> {
     writer: W,
-    writes: u64,
+    past: Past,
     faults: u64,
 }
 
@@ -21,7 +23,7 @@ impl<W: Write> Model for StdSink<W> {
 
     ghost Value = { SinkOfWriter };
 
-    ghost view = { λ sink. record { writes = sink.writes; faults = sink.faults } };
+    ghost view = { λ sink. record { past = sink.past.turns.writes; faults = sink.faults } };
 }
 
 impl<W: Write> StdSink<W> {
@@ -31,7 +33,7 @@ impl<W: Write> StdSink<W> {
     {
         StdSink {
             writer,
-            writes: 0,
+            past: Past::none(),
             faults: 0,
         }
     }
@@ -42,20 +44,23 @@ impl<W: Write> Sink for StdSink<W> {
 
     ghost seen = { writer_sink_seen };
 
-    ghost writes = { λ before w now. now ≡ one_write before w.taken };
+    ghost writes = { λ before w now. now ≡ one_write before w };
 
     // A write that takes nothing of a piece that isn't empty is a fault.
     fn write(&mut self, piece: &[u8]) -> Result<usize, Failed>
         ensures bound { IfOk result (λ n. n ≤ length piece.now) }
         ensures some { IfOk result (λ n. 0 < length piece.now → 0 < n) }
-        ensures after { self.new ≡ one_write self.old (taken_by result) }
+        ensures after { self.new ≡ one_write self.old (writing piece.now result) }
         ensures later { self.old.faults ≤ self.new.faults }
     {
-        self.writes = self.writes.saturating_add(1);
         match self.writer.write(piece) {
-            Ok(count) if count > 0 || piece.is_empty() => Ok(count),
+            Ok(count) if count > 0 || piece.is_empty() => {
+                self.past = self.past.with(&Turn::Wrote(piece, Ok(count)));
+                Ok(count)
+            }
             _ => {
                 self.faults = self.faults.saturating_add(1);
+                self.past = self.past.with(&Turn::Wrote(piece, Err(Failed)));
                 Err(Failed)
             }
         }
