@@ -9,7 +9,8 @@ use Rattle.program_runs.specs.declared.calling.Calling.TheVariants.{ByName}
 use Rattle.program_runs.specs.Nets.{RunsAs}
 use Rattle.goi_engine.specs.declared.answer.Answer.{Answer}
 use Rattle.goi_engine.specs.declared.answer.Answer.TheVariants.{Prints, Refused, BadWords, NotRead, NoMemory}
-use Rattle.goi_engine.specs.Answers.{AnswersFile, AnswersSchedule, MadeNet, AnswersJob}
+use Rattle.goi_engine.specs.Answers.{AnswersFile, AnswersTask, AnswersSchedule, MadeNet, AnswersJob}
+use Rattle.goi_jobs.specs.declared.task.Task.{Task}
 use Rattle.goi_jobs.specs.Jobs.{JobTree, text, replay, list, demo, call, verilog}
 use Rattle.goi_jobs.specs.declared.verilog.Verilog.{Verilog}
 use Rattle.goi_world.specs.Seen.{FilesState, FilesKept}
@@ -82,6 +83,24 @@ module _ (file moves : List ℕ) (window : Option Window) (old new : FilesState)
       (subst (λ (s : FilesState). AnswersSchedule made.term window moves s new a) (same_state old mid kept made.faults)
       (h made.term made.runs))
 
+-- ---- text
+
+-- the answer to a task on a file is that to the job
+text_job : (workers : ℕ) (task : Task) (file : List ℕ) (old new : FilesState) (a : Answer) → AnswersTask workers task file old new a →
+    AnswersJob (text file workers task) old new a
+text_job workers task file old new (Prints r) h = h
+text_job workers task file old new (Refused r) h = h
+text_job workers task file old new BadWords h = h
+text_job workers task file old new NotRead h = (tt, h)
+text_job workers task file old new NoMemory h = h
+
+-- and so to the job that asks for it, by what was called
+pub text_of_job : (job : JobTree) (file : List ℕ) (workers : ℕ) (task : Task) → job ≡ text file workers task → (named : List ℕ) →
+    named ≡ file → (old new : FilesState) (a : Answer) → AnswersTask workers task named old new a → AnswersJob job old new a
+text_of_job job file workers task is named n old new a h =
+    subst (λ (j : JobTree). AnswersJob j old new a) (sym is)
+    (text_job workers task file old new a (subst (λ (xs : List ℕ). AnswersTask workers task xs old new a) n h))
+
 -- ---- call
 
 -- the answer to the file of a function is that to its call
@@ -132,7 +151,14 @@ verilog_of_job job file name v is given_file given_name f n old new a h =
 
 -- a file of which nothing was read
 unread : {S : Type 0} (one : S → Reading → S → Type 0) (name : List ℕ) (limit : ℕ) (old : S) → LoadedBy one name limit old old
-unread one name limit old = record { log = []; came = refl; few = omega arith; each = All-nil (ReadsWithin name limit); onwards = tt }
+unread one name limit old = record {
+  log = [];
+  came = refl;
+  few = omega arith;
+  each = All-nil (ReadsWithin name limit);
+  onwards = tt;
+  joined = tt;
+}
 
 -- reading nothing is within every job's reads
 pub nothing_read : {S : Type 0} (one : S → Reading → S → Type 0) (told : List ℕ → Option (List ℕ)) (asked : Option JobTree) (old : S) →

@@ -18,3 +18,5 @@ pub mod Coming
 pub mod Headlines
 -- and that of a call
 pub mod CallHeadlines
+-- over the files of the system the promise speaks of the bytes that were read
+pub mod Systems

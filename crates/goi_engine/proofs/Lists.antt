@@ -5,7 +5,7 @@ use Rattle.std.proofs.Common.{⊎_elim, arith, All}
 use Rattle.std.proofs.lemmas.List.Elements.{All-nil, All-cons}
 use Rattle.std.proofs.Math.Seq.{take-length}
 use Rattle.goi_world.specs.Outside.{Reading}
-use Rattle.pcf_values.specs.Most.{most_program_bytes}
+use Rattle.pcf_values.specs.Most.{most_program_bytes, most_schedule_bytes}
 use Rattle.batch_lists.specs.declared.fault.BatchFault.{BatchFault}
 use Rattle.batch_lists.specs.declared.fault.BatchFault.TheVariants as lists
 use Rattle.batch_lists.specs.declared.line.BatchLine.{BatchLine}
@@ -30,11 +30,14 @@ use Rattle.goi_engine.specs.declared.load.LoadError.{LoadError}
 use Rattle.goi_engine.specs.declared.load.LoadError.TheVariants.{Memory, Failed}
 use Rattle.goi_engine.specs.Answers.{Says, AnswersJob, AnswersLines, AnswersList, AreJudgedIn, IsStopped, LineFits, LinesFit}
 use Rattle.goi_engine.specs.Answers.{NotLoaded, LoadedLines, stop_of_list}
-use Rattle.goi_jobs.specs.Jobs.{list}
-use Rattle.goi_world.specs.Seen.{FilesState, FilesKept}
-use Rattle.goi_engine.specs.FilesSeen.{Possibly, OfFile, LoadedBy}
+use Rattle.goi_jobs.specs.Jobs.{JobTree, text, replay, list, demo, call, verilog}
+use Rattle.goi_engine.specs.Verdicts.{ReadFor}
+use Rattle.goi_world.specs.Told.{Fits}
+use Rattle.goi_world.specs.Seen.{FilesState, FilesKept, holding}
+use Rattle.goi_engine.specs.FilesSeen.{Whatever, Possibly, OfFile, LoadedBy}
 use Rattle.goi_engine.specs.ListsSeen.{OfList, FaultyList, unlisted, AreSectionsIn, ReportsLines, LacksOne, LoadedEach, LoadedList}
 use Rattle.goi_engine.proofs.Answered.{same_state}
+use Rattle.goi_engine.proofs.Loading.{load_fits, kept_holding}
 use Rattle.goi_engine.proofs.LoadedFiles.{Same, possible, of_program_goes, faulty_goes}
 
 -- ---- what was loaded of a list's file
@@ -137,18 +140,54 @@ judged_goes budget (Runs job) v bytes s h =
     record { net = of_program_goes (wanted_by_run ByName) _ v bytes s h.net; budget = h.budget; fits = h.fits }
 judged_goes budget (Told line) v bytes s (f, h, is) = (f, faulty_goes number f v bytes s h, is)
 
--- what the program that was loaded of a line's file came to
-pub judged_in : {E : Type 0} (old : FilesState) (file : List ℕ) (budget : ℕ) (v : List ℕ) → (IsTrue (old.lacks file) → ⊥) →
-    IfSome (old.told file) (λ bytes. v ≡ take (most_program_bytes + 1) bytes) → (r : Result Judged E) →
-    IfOk r (IsJudged (listed budget v)) → IfOk r (λ j. OfFile old file (λ bytes. IsJudged (listed budget bytes) j))
-judged_in old file budget v had e (Ok j) h =
-    (had, possible most_program_bytes (λ b. IsJudged (listed budget b) j) (judged_goes budget j) (old.told file) v e h)
-judged_in old file budget v had e (Err x) h = tt
+-- what the program that was loaded of a line's file came to, whatever the files hold
+pub whatever_judged : {S E : Type 0} (seen : S → FilesState) (fits : S → (List ℕ → Option (List ℕ)) → Type 0) (file : List ℕ) (budget : ℕ)
+    (old new : S) (v : List ℕ) → (IsTrue ((seen old).lacks file) → ⊥) →
+    ((told : List ℕ → Option (List ℕ)) → fits new told → IfSome (told file) (λ bytes. v ≡ take (most_program_bytes + 1) bytes)) →
+    (r : Result Judged E) → IfOk r (IsJudged (listed budget v)) →
+    IfOk r (λ j. Whatever seen fits old new (λ x y. OfFile x file (λ bytes. IsJudged (listed budget bytes) j)))
+whatever_judged seen fits file budget old new v had e (Ok j) h =
+    λ told is. (
+      had,
+      possible most_program_bytes (λ b. IsJudged (listed budget b) j) (judged_goes budget j) (told file) v (e told is) h,
+    )
+whatever_judged seen fits file budget old new v had e (Err x) h = tt
 
 -- nothing more was read
 nothing_more : {S : Type 0} (one : S → Reading → S → Type 0) (lines : List BatchLine) (s : S) → LoadedEach one lines s s
 nothing_more one [] s = refl
 nothing_more one (l ∷ ls) s = inl refl
+
+-- what fits after the programs were loaded fits before
+pub lines_fit_before : {S : Type 0} (one : S → Reading → S → Type 0) (fits : S → (List ℕ → Option (List ℕ)) → Type 0) →
+    ((old : S) (r : Reading) (new : S) (told : List ℕ → Option (List ℕ)) → one old r new → fits new told → fits old told × Fits told r) →
+    (told : List ℕ → Option (List ℕ)) (lines : List BatchLine) (old new : S) → LoadedEach one lines old new → fits new told → fits old told
+lines_fit_before one fits each told [] old new e h = subst (λ s. fits s told) e h
+lines_fit_before one fits each told (l ∷ ls) old new (inl e) h = subst (λ s. fits s told) e h
+lines_fit_before one fits each told (l ∷ ls) old new (inr (mid, loaded, more)) h =
+    load_fits one fits each told l.file most_program_bytes old mid loaded (lines_fit_before one fits each told ls mid new more h)
+
+-- and so it is with the programs of a list
+pub text_fit_before : {S : Type 0} (one : S → Reading → S → Type 0) (fits : S → (List ℕ → Option (List ℕ)) → Type 0) →
+    ((old : S) (r : Reading) (new : S) (told : List ℕ → Option (List ℕ)) → one old r new → fits new told → fits old told × Fits told r) →
+    (told : List ℕ → Option (List ℕ)) (bytes : List ℕ) (old new : S) → LoadedLines one bytes old new → fits new told → fits old told
+text_fit_before one fits each told bytes old new (inl e) h = subst (λ s. fits s told) e h
+text_fit_before one fits each told bytes old new (inr (lines, is, more)) h = lines_fit_before one fits each told lines old new more h
+
+-- whether a file of some lines is lacked doesn't hang on what the files hold
+pub lacks_holding : (told : List ℕ → Option (List ℕ)) (files : FilesState) (lines : List BatchLine) → LacksOne files lines →
+    LacksOne (holding told files) lines
+lacks_holding told files [] h = h
+lacks_holding told files (l ∷ ls) (inl h) = inl h
+lacks_holding told files (l ∷ ls) (inr h) = inr (lacks_holding told files ls h)
+
+pub unread_holding : (told : List ℕ → Option (List ℕ)) (old new : FilesState) (lines : List BatchLine) (e : LoadError) →
+    NotLoaded (LacksOne old lines) old new e → NotLoaded (LacksOne (holding told old) lines) (holding told old) (holding told new) e
+unread_holding told old new lines Memory h = h
+unread_holding told old new lines Failed h = record {
+  cause = ⊎_elim (λ (l : LacksOne old lines). inl (lacks_holding told old lines l)) (λ r. inr r) h.cause;
+  sure = λ s. lacks_holding told old lines (h.sure s);
+}
 
 -- the lines behind the first
 abbrev pub others : List BatchLine → List BatchLine
@@ -197,18 +236,32 @@ module _ (lines : List BatchLine) (line : BatchLine) (some : 1 ≤ length lines)
           let k = subst (λ s. NotLoaded (LacksOne s (others lines)) s new e) (same_state old mid kept same) h in
           subst (λ ls. NotLoaded (LacksOne old ls) old new e) (sym (first_and_rest lines line some is)) (lacks_more new e k)
 
-      -- and the lines behind it are judged, and so all of them are
-      pub judged_more : {A : Type 0} (j : Judged) (before put after : List Judged) →
-          OfFile old line.file (λ bytes. IsJudged (listed line.budget bytes) j) → put ≡ before ++ j ∷ [] → (r : Result A LoadError) →
-          OnOk r ((more : List Judged) × (after ≡ put ++ more) × AreJudgedIn mid (others lines) more) → OnOk r
-          ((more : List Judged) × (after ≡ before ++ more) × AreJudgedIn old lines more)
-      judged_more j before put after h pushed (Err e) x = x
-      judged_more j before put after h pushed (Ok y) (more, is_more, each) =
-          let rest = subst (λ s. AreJudgedIn s (others lines) more) (same_state old mid kept same) each in (
-            j ∷ more,
-            is_more ∙ ap (λ xs. xs ++ more) pushed ∙ append_assoc before (j ∷ []) more,
-            subst (λ ls. AreJudgedIn old ls (j ∷ more)) (sym (first_and_rest lines line some is)) (h, rest),
-          )
+-- the lines behind the first are judged, and so all of them are, whatever the files hold
+module _ {S : Type 0} (seen : S → FilesState) (one : S → Reading → S → Type 0) (fits : S → (List ℕ → Option (List ℕ)) → Type 0)
+    (each : (old : S) (r : Reading) (new : S) (told : List ℕ → Option (List ℕ)) → one old r new → fits new told →
+    fits old told × Fits told r)
+    (lines : List BatchLine) (line : BatchLine) (some : 1 ≤ length lines) (is : line ≡ get_or lines 0 line) (first mid last : S)
+    (kept : FilesKept (seen first) (seen mid)) (same : (seen mid).faults ≡ (seen first).faults) where
+  abbrev Judges : (List BatchLine) → S → S → List Judged → Type 0
+  Judges ls old new js = Whatever seen fits old new (λ x y. AreJudgedIn x ls js)
+
+  pub judged_more : {A : Type 0} (j : Judged) (before put after : List Judged) →
+      Whatever seen fits first mid (λ x y. OfFile x line.file (λ bytes. IsJudged (listed line.budget bytes) j)) → put ≡ before ++ j ∷ [] →
+      (r : Result A LoadError) → LoadedEach one (others lines) mid last →
+      OnOk r ((more : List Judged) × (after ≡ put ++ more) × Judges (others lines) mid last more) →
+      OnOk r ((more : List Judged) × (after ≡ before ++ more) × Judges lines first last more)
+  judged_more j before put after h pushed (Err e) read x = x
+  judged_more j before put after h pushed (Ok y) read (more, is_more, rest) = (
+    j ∷ more,
+    is_more ∙ ap (λ xs. xs ++ more) pushed ∙ append_assoc before (j ∷ []) more,
+    λ told fit.
+        let old = holding told (seen first) in
+        let between = holding told (seen mid) in
+        let still = same_state old between (kept_holding told (seen first) (seen mid) kept) same in
+        let all = subst (λ s. AreJudgedIn s (others lines) more) still (rest told fit) in
+        subst (λ ls. AreJudgedIn old ls (j ∷ more)) (sym (first_and_rest lines line some is))
+        (h told (lines_fit_before one fits each told (others lines) mid last read fit), all),
+  )
 
 -- ---- their report
 
@@ -333,3 +386,29 @@ pub only_memory : {A : Type 0} (lacks : Type 0) (old new : FilesState) (r : Resu
     IfErr r (λ e. e ≡ Memory) → IfErr r (NotLoaded lacks old new)
 only_memory lacks old new (Ok x) same h = h
 only_memory lacks old new (Err e) same h = subst (NotLoaded lacks old new) (sym h) same
+
+-- ---- all reads of a job
+
+-- what fits after the reads of a job fits before them
+module _ {S : Type 0} (one : S → Reading → S → Type 0) (fits : S → (List ℕ → Option (List ℕ)) → Type 0)
+    (each : (old : S) (r : Reading) (new : S) (told : List ℕ → Option (List ℕ)) → one old r new → fits new told →
+    fits old told × Fits told r)
+    (told : List ℕ → Option (List ℕ)) where
+  same_fits : (old new : S) → new ≡ old → fits new told → fits old told
+  same_fits old new e h = subst (λ s. fits s told) e h
+
+  loaded_fits : (name : List ℕ) (limit : ℕ) (old new : S) → LoadedBy one name limit old new → fits new told → fits old told
+  loaded_fits name limit old new l h = load_fits one fits each told name limit old new l h
+
+  pub read_fits : (asked : Option JobTree) (old new : S) → ReadFor one told asked old new → fits new told → fits old told
+  read_fits None old new e h = same_fits old new e h
+  read_fits (Some (text file workers task)) old new l h = loaded_fits file _ old new l h
+  read_fits (Some (replay file moves window)) old new l h =
+      loaded_fits file _ old l.mid l.program
+      (⊎_elim (λ (e : new ≡ l.mid). same_fits l.mid new e h) (λ k. loaded_fits moves most_schedule_bytes l.mid new k h) l.schedule)
+  read_fits (Some (list file workers)) old new l h =
+      loaded_fits file _ old l.mid l.list
+      (⊎_elim (λ (e : new ≡ l.mid). same_fits l.mid new e h) (λ k. lines_fit_before one fits each told k.0 l.mid new k.2 h) l.programs)
+  read_fits (Some (demo n workers)) old new e h = same_fits old new e h
+  read_fits (Some (call file numbers workers budget schedule tally)) old new l h = loaded_fits file _ old new l h
+  read_fits (Some (verilog file name v)) old new l h = loaded_fits file _ old new l h

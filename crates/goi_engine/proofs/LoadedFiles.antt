@@ -29,8 +29,8 @@ use Rattle.goi_jobs.specs.declared.verilog.Verilog.TheVariants.{Circuit, Bench}
 use Rattle.goi_engine.specs.declared.answer.Answer.{Answer}
 use Rattle.goi_engine.specs.declared.answer.Answer.TheVariants.{Prints, Refused, BadWords, NotRead, NoMemory}
 use Rattle.goi_engine.specs.Answers.{Says, IsStopped, AnswersFile, AnswersNoNet, MadeNet}
-use Rattle.goi_world.specs.Seen.{FilesState}
-use Rattle.goi_engine.specs.FilesSeen.{Possibly}
+use Rattle.goi_world.specs.Seen.{FilesState, holding}
+use Rattle.goi_engine.specs.FilesSeen.{Whatever, Possibly}
 use Rattle.goi_tasks.specs.NetFiles.{FaultyListing, unlisted}
 use Rattle.goi_jobs.specs.declared.shown.Shown.{Shown}
 use Rattle.function_runs.specs.Functions.{FaultyFunction, unread as no_function_read, of_tree as of_function_tree}
@@ -287,18 +287,26 @@ made_net file old new v net same had e h =
       faults = same;
     }
 
-pub nets_made : {E : Type 0} (file : List ℕ) (old new : FilesState) (v : List ℕ) (r : Result NetTree E) → new.faults ≡ old.faults →
-    (IsTrue (old.lacks file) → ⊥) → IfSome (old.told file) (λ bytes. v ≡ take (most_program_bytes + 1) bytes) →
-    IfOk r (λ net. IsNetFor ByName v net) → IfOk r (λ net. MadeNet file old new net)
-nets_made file old new v (Ok net) same had e h = made_net file old new v net same had e h
-nets_made file old new v (Err x) same had e h = h
+-- and so it is whatever the files hold
+module _ {S : Type 0} (seen : S → FilesState) (fits : S → (List ℕ → Option (List ℕ)) → Type 0) (file : List ℕ) (old new : S) (v : List ℕ)
+  where
+    abbrev Loaded : Type 0
+    Loaded = (told : List ℕ → Option (List ℕ)) → fits new told → IfSome (told file) (λ bytes. v ≡ take (most_program_bytes + 1) bytes)
 
-pub none_made : {N : Type 0} (file : List ℕ) (old new : FilesState) (v : List ℕ) (r : Result N Answer) → new.faults ≡ old.faults →
-    (IsTrue (old.lacks file) → ⊥) → IfSome (old.told file) (λ bytes. v ≡ take (most_program_bytes + 1) bytes) →
-    IfErr r (λ a. Says (λ o. ⊥) (FaultyText number v) a) → IfErr r (λ a. AnswersNoNet file old new a)
-none_made file old new v (Ok net) same had e h = h
-none_made file old new v (Err a) same had e h =
-    answers_file most_program_bytes (λ bytes o. ⊥) (FaultyText number) (λ o v b s x. x) (faulty_goes number) file old new v a same had e h
+    pub whatever_net : {E : Type 0} (r : Result NetTree E) → (seen new).faults ≡ (seen old).faults → (IsTrue ((seen old).lacks file) → ⊥) →
+        Loaded → IfOk r (λ net. IsNetFor ByName v net) → IfOk r (λ net. Whatever seen fits old new (λ x y. MadeNet file x y net))
+    whatever_net (Ok net) same had e h =
+        λ told is. made_net file (holding told (seen old)) (holding told (seen new)) v net same had (e told is) h
+    whatever_net (Err x) same had e h = h
+
+    pub whatever_none : {N : Type 0} (r : Result N Answer) → (seen new).faults ≡ (seen old).faults → (IsTrue ((seen old).lacks file) → ⊥) →
+        Loaded → IfErr r (λ a. Says (λ o. ⊥) (FaultyText number v) a) →
+        IfErr r (λ a. Whatever seen fits old new (λ x y. AnswersNoNet file x y a))
+    whatever_none (Ok net) same had e h = h
+    whatever_none (Err a) same had e h =
+        λ told is.
+        answers_file most_program_bytes (λ bytes o. ⊥) (FaultyText number) (λ o v b s x. x) (faulty_goes number) file
+        (holding told (seen old)) (holding told (seen new)) v a same had (e told is) h
 
 -- ---- no report
 

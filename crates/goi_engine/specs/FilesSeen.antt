@@ -1,8 +1,15 @@
--- What may be said of the bytes of a file by what is seen of it, and which reads load one.
--- Nothing may be told of a file, as of the files of the system. Then its bytes are some bytes, and what is said of it is said of those.
+-- What may be said of the bytes of a file by what it holds, and which reads load one.
+-- What files hold may be known beforehand, as of files in memory. Of the files of the system it shows in the reads alone. So contracts
+-- speak of whatever files hold that all reads fit. That may leave out a file: then its bytes are some bytes, and what is said of it is said
+-- of those.
 use Rattle.std.specs.Prelude.{◌≡◌, ℕ, ◌+◌, ◌<◌, ◌≤◌, IsTrue, List, [], ◌∷◌, length, All, Option, None, Some}
-use Rattle.goi_world.specs.Outside.{Reading, CameBy}
-use Rattle.goi_world.specs.Seen.{FilesState}
+use Rattle.goi_world.specs.Outside.{Reading, CameBy, given}
+use Rattle.goi_world.specs.Seen.{FilesState, holding}
+
+-- whatever the files hold that all that was read of them fits, this is so of them as they are seen before and after
+abbrev pub Whatever : {S : Type 0} → (S → FilesState) → (S → (List ℕ → Option (List ℕ)) → Type 0) → S → S →
+    (FilesState → FilesState → Type 0) → Type 0
+Whatever seen fits old new P = (told : List ℕ → Option (List ℕ)) → fits new told → P (holding told (seen old)) (holding told (seen new))
 
 -- the told bytes are so, or some bytes where none are told
 abbrev pub Possibly : Option (List ℕ) → (List ℕ → Type 0) → Type 0
@@ -27,11 +34,17 @@ abbrev pub Onwards : ℕ → List Reading → Type 0
 Onwards place [] = Unit {0}
 Onwards place (r ∷ log) = (r.at < place) × Onwards r.at log
 
--- a file of at most so many bytes was loaded: by reads of it alone, no more than one a byte and one, at places that go on, none of them
--- past one byte more than the limit
+-- each of these reads, the last of them first, begins where those before it came to
+abbrev pub Joined : List Reading → Type 0
+Joined [] = Unit {0}
+Joined (r ∷ log) = (r.at ≡ length (given log)) × Joined log
+
+-- a file of at most so many bytes was loaded: by reads of it alone, no more than one a byte and one, at places that go on and leave none
+-- out, none of them past one byte more than the limit
 pub record LoadedBy {S : Type 0} (one : S → Reading → S → Type 0) (name : List ℕ) (limit : ℕ) (old new : S) : Type 0 where
   pub log : List Reading
   pub came : CameBy one old log new
   pub few : length log ≤ limit + 1
   pub each : All (ReadsWithin name limit) log
   pub onwards : Onwards (limit + 1) log
+  pub joined : Joined log

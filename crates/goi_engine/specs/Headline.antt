@@ -1,6 +1,7 @@
 -- The headline: what `goi run FILE` comes to, for whoever reads nothing else.
 -- The words ask for a run by name that prints neither its schedule nor its tally nor its progress. `RunPromise` is the part of the promise
--- that speaks of it, and the headline rests on it alone: the file is there, and its bytes are told. A program's *value* is what it means,
+-- that speaks of it, and the headline rests on it alone: the file is there, and these are its bytes. They need not be known beforehand: the
+-- top call keeps the promise for whatever the files hold that all reads fit. A program's *value* is what it means,
 -- call by name. The *length* of its net is what following questions counts on it. No worker and no machine is in the sentence, so that it
 -- is the same for any number of workers.
 use Rattle.std.specs.Prelude.{◌≡◌, ◌⊎◌, ◌≤◌, ◌<◌, ℕ, IsTrue, List, [], Option, Some, None}

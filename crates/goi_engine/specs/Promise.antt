@@ -1,6 +1,7 @@
 -- What the top call promises: for each status, what it means, what was written, and why it comes; and what comes where nothing fails.
--- The files are seen as `FilesState` before the call and after it, each sink as a `SinkTurn`. What isn't told of a file is left open only
--- so far as it must be: the report is then the right one for some bytes, and so is the line of a fault.
+-- The files are seen as `FilesState` before the call and after it, each sink as a `SinkTurn`. The top call keeps the promise for whatever
+-- the files hold that all reads fit. Where that leaves out a file, the report is the right one for some bytes, and so is the line of a
+-- fault.
 use Rattle.std.specs.Prelude.{◌≡◌, ◌≢◌, ◌⊎◌, ℕ, ◌≤◌, List, length, Option, None, Some}
 use Rattle.goi_world.specs.Seen.{FilesKept}
 use Rattle.goi_tasks.specs.declared.fault.Fault.{Fault}

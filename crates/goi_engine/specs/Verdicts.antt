@@ -115,7 +115,7 @@ pub record LoadedBoth {S : Type 0} (one : S → Reading → S → Type 0) (file 
   pub schedule : (new ≡ mid) ⊎ LoadedBy one moves most_schedule_bytes mid new
 
 -- files came from their first state to the second by the reads of the job, each file up to its limit; without a job by none. Which files
--- a list's programs are in is known where the list is told.
+-- a list's programs are in is known by what the list holds.
 abbrev pub ReadFor : {S : Type 0} → (S → Reading → S → Type 0) → (List ℕ → Option (List ℕ)) → Option JobTree → S → S → Type 0
 ReadFor one told None old new = new ≡ old
 ReadFor one told (Some (text file workers task)) old new = LoadedBy one file (most_bytes task) old new
@@ -124,3 +124,8 @@ ReadFor one told (Some (list file workers)) old new = LoadedList one (told file)
 ReadFor one told (Some (demo n workers)) old new = new ≡ old
 ReadFor one told (Some (call file numbers workers budget schedule tally)) old new = LoadedBy one file most_program_bytes old new
 ReadFor one told (Some (verilog file name v)) old new = LoadedBy one file most_program_bytes old new
+
+-- so it is whatever the files hold that all that was read of them fits
+abbrev pub ReadAsFits : {S : Type 0} → (S → Reading → S → Type 0) → (S → (List ℕ → Option (List ℕ)) → Type 0) → Option JobTree → S → S →
+    Type 0
+ReadAsFits one fits asked old new = (told : List ℕ → Option (List ℕ)) → fits new told → ReadFor one told asked old new

@@ -9,7 +9,7 @@ ghost use Rattle.goi_jobs.specs.Ranges.{IsDemo, IsWorkers};
 ghost use Rattle.goi_jobs.specs.Jobs.{IsWithinLimits, job_of};
 ghost use Rattle.goi_engine.specs.Answers.{Answers, AnswersJob, AnswersTask, AnswersSchedule, AnswersNoNet, MadeNet, Says, IsStopped};
 ghost use Rattle.goi_jobs.specs.Jobs.{replay};
-ghost use Rattle.goi_engine.specs.FilesSeen.{LoadedBy};
+ghost use Rattle.goi_engine.specs.FilesSeen.{Whatever, LoadedBy};
 ghost use Rattle.goi_world.specs.Seen.{FilesKept};
 ghost use Rattle.metered_pool.specs.Progress.{IsProgress};
 ghost use Rattle.net_runs.specs.IsRun.{IsRun, IsFirstWorkers};
@@ -22,7 +22,7 @@ ghost use Rattle.goi_tasks.specs.Replaying.{ReportsReplay, FaultySchedule};
 ghost use Rattle.goi_tasks.specs.RunReports.{ReportsDemo};
 ghost use Rattle.goi_tasks.specs.Tasks.{ReportsText, FaultyFor, most_bytes};
 ghost use Rattle.goi_jobs.specs.Tasks.{IsWithin, progress_of};
-ghost use Rattle.goi_engine.specs.Verdicts.{LoadedBoth, ReadFor};
+ghost use Rattle.goi_engine.specs.Verdicts.{LoadedBoth, ReadAsFits};
 
 use crate::batching::answer_batch;
 use crate::calling::answer_call;
@@ -69,8 +69,8 @@ pub(crate) fn answer_to<R: Threads + Wait + Sync, F: Files, G: Gate>(
     gate: &G,
 ) -> Answer
     ensures kept { FilesKept (F.seen files.old) (F.seen files.new) }
-    ensures answers { Answers (job (map string_bytes words.now)) (F.seen files.old) (F.seen files.new) result }
-    ensures reads { ReadFor F.reads (F.seen files.old).told (job (map string_bytes words.now)) files.old files.new }
+    ensures answers { Whatever F.seen F.fits files.old files.new (λ old new. Answers (job (map string_bytes words.now)) old new result) }
+    ensures reads { ReadAsFits F.reads F.fits (job (map string_bytes words.now)) files.old files.new }
 {
     match job_of(alloc, words) {
         Ok(job) => {
@@ -93,8 +93,8 @@ fn answer_job<R: Threads + Wait + Sync, F: Files, G: Gate>(
 ) -> Answer
     requires { IsWithinLimits (job_of job.now) }
     ensures kept { FilesKept (F.seen files.old) (F.seen files.new) }
-    ensures answers { AnswersJob (job_of job.now) (F.seen files.old) (F.seen files.new) result }
-    ensures reads { ReadFor F.reads (F.seen files.old).told (Some (job_of job.now)) files.old files.new }
+    ensures answers { Whatever F.seen F.fits files.old files.new (λ old new. AnswersJob (job_of job.now) old new result) }
+    ensures reads { ReadAsFits F.reads F.fits (Some (job_of job.now)) files.old files.new }
 {
     match job {
         Job::Text {
@@ -159,7 +159,7 @@ fn answer_run<R: Threads + Wait + Sync, F: Files, G: Gate>(
     requires within { IsWithin task }
     requires workers { IsWorkers workers }
     ensures kept { FilesKept (F.seen files.old) (F.seen files.new) }
-    ensures answers { AnswersTask workers task file.now (F.seen files.old) (F.seen files.new) result }
+    ensures answers { Whatever F.seen F.fits files.old files.new (λ old new. AnswersTask workers task file.now old new result) }
     ensures reads { LoadedBy F.reads file.now (most_bytes task) files.old files.new }
 {
     if progress_of(task) {
@@ -183,7 +183,7 @@ fn answer_unwatched<R: Threads + Wait + Sync, F: Files, G: Gate>(
     requires workers { IsWorkers workers }
     requires unwatched { progress_of task ≡ false }
     ensures kept { FilesKept (F.seen files.old) (F.seen files.new) }
-    ensures answers { AnswersTask workers task file.now (F.seen files.old) (F.seen files.new) result }
+    ensures answers { Whatever F.seen F.fits files.old files.new (λ old new. AnswersTask workers task file.now old new result) }
     ensures reads { LoadedBy F.reads file.now (most_bytes task) files.old files.new }
 {
     let run = |net: &Net, budget: u32| -> Result<Ended, AllocError>
@@ -210,7 +210,7 @@ fn answer_watched<R: Threads + Wait + Sync, F: Files, G: Gate>(
     requires workers { IsWorkers workers }
     requires watched { progress_of task ≡ true }
     ensures kept { FilesKept (F.seen files.old) (F.seen files.new) }
-    ensures answers { AnswersTask workers task file.now (F.seen files.old) (F.seen files.new) result }
+    ensures answers { Whatever F.seen F.fits files.old files.new (λ old new. AnswersTask workers task file.now old new result) }
     ensures reads { LoadedBy F.reads file.now (most_bytes task) files.old files.new }
 {
     let run = |net: &Net, budget: u32| -> Result<(Ended, Vec<u64>), AllocError>
@@ -237,7 +237,7 @@ fn answer_task<F: Files, C: Crew>(
     requires workers { IsWorkers (C.count crew.now) }
     requires reads { (moves : ℕ) (numbers : List ℕ) → C.reads crew.now moves numbers → NumbersOf (progress_of task) moves numbers }
     ensures kept { FilesKept (F.seen files.old) (F.seen files.new) }
-    ensures answers { AnswersTask (C.count crew.now) task file.now (F.seen files.old) (F.seen files.new) result }
+    ensures answers { Whatever F.seen F.fits files.old files.new (λ old new. AnswersTask (C.count crew.now) task file.now old new result) }
     ensures reads { LoadedBy F.reads file.now (most_bytes task) files.old files.new }
 {
     match load(alloc, files, file, most_bytes(task)) {
@@ -293,7 +293,8 @@ fn answer_replay<F: Files>(
     window: Option<Window>,
 ) -> Answer
     ensures kept { FilesKept (F.seen files.old) (F.seen files.new) }
-    ensures answers { AnswersJob (replay file.now schedule.now window) (F.seen files.old) (F.seen files.new) result }
+    ensures answers { Whatever F.seen F.fits files.old files.new (λ old new.
+        AnswersJob (replay file.now schedule.now window) old new result) }
     ensures reads { LoadedBoth F.reads file.now schedule.now files.old files.new }
 {
     match load_net(alloc, files, file) {
@@ -309,8 +310,8 @@ fn answer_replay<F: Files>(
 /// The net of the program of a file, or the answer where there is none.
 fn load_net<F: Files>(alloc: Global, files: &mut F, file: &str) -> Result<Net, Answer>
     ensures kept { FilesKept (F.seen files.old) (F.seen files.new) }
-    ensures net { IfOk result (λ net. MadeNet file.now (F.seen files.old) (F.seen files.new) net) }
-    ensures none { IfErr result (λ a. AnswersNoNet file.now (F.seen files.old) (F.seen files.new) a) }
+    ensures net { IfOk result (λ net. Whatever F.seen F.fits files.old files.new (λ old new. MadeNet file.now old new net)) }
+    ensures none { IfErr result (λ a. Whatever F.seen F.fits files.old files.new (λ old new. AnswersNoNet file.now old new a)) }
     ensures reads { LoadedBy F.reads file.now most_program_bytes files.old files.new }
 {
     match load(alloc, files, file, PROGRAM_BYTES as u32) {
@@ -340,8 +341,8 @@ fn answer_schedule<F: Files>(
 ) -> Answer
     requires { Runs net.now }
     ensures kept { FilesKept (F.seen files.old) (F.seen files.new) }
-    ensures answers { (t : TermTree) → RunsAs ByName t net.now →
-        AnswersSchedule t window file.now (F.seen files.old) (F.seen files.new) result }
+    ensures answers { Whatever F.seen F.fits files.old files.new (λ old new. (t : TermTree) → RunsAs ByName t net.now →
+        AnswersSchedule t window file.now old new result) }
     ensures reads { LoadedBy F.reads file.now most_schedule_bytes files.old files.new }
 {
     match load(alloc, files, file, SCHEDULE_BYTES as u32) {

@@ -1,6 +1,6 @@
 //! The answer to a list of programs.
 
-ghost use Rattle.std.specs.Prelude.{◌≡◌, ◌≤◌, ◌++◌, ◌∷◌, [], List, length, All, IsTrue, IfOk, IfErr, OnOk};
+ghost use Rattle.std.specs.Prelude.{◌≡◌, ◌≤◌, ◌++◌, ◌∷◌, [], ℕ, List, length, All, IsTrue, Option, IfOk, IfErr, OnOk};
 ghost use Rattle.pcf_values.specs.Most.{most_program_bytes};
 ghost use Rattle.batch_lists.specs.Limits.{most_job_budget, most_jobs};
 ghost use Rattle.batch_lists.specs.Lists.{IsList};
@@ -12,7 +12,7 @@ ghost use Rattle.goi_batches.specs.Telling.{ReportsBatch};
 ghost use Rattle.goi_engine.specs.Answers.{AnswersJob, AnswersLines, AnswersList, AreJudgedIn, LineFits, LinesFit, LoadedLines, NotLoaded};
 ghost use Rattle.goi_engine.specs.Answers.{Says, stop_of_list};
 ghost use Rattle.goi_jobs.specs.Jobs.{list};
-ghost use Rattle.goi_engine.specs.FilesSeen.{LoadedBy, OfFile};
+ghost use Rattle.goi_engine.specs.FilesSeen.{Whatever, LoadedBy, OfFile};
 ghost use Rattle.goi_world.specs.Seen.{FilesKept};
 ghost use Rattle.goi_engine.specs.ListsSeen.{FaultyList, LacksOne, LoadedEach, LoadedList};
 
@@ -39,8 +39,9 @@ pub(crate) fn answer_batch<R: Threads + Wait + Sync, F: Files, G: Gate>(
 ) -> Answer
     requires { IsWorkers workers }
     ensures kept { FilesKept (F.seen files.old) (F.seen files.new) }
-    ensures answers { AnswersJob (list file.now workers) (F.seen files.old) (F.seen files.new) result }
-    ensures reads { LoadedList F.reads ((F.seen files.old).told file.now) file.now files.old files.new }
+    ensures answers { Whatever F.seen F.fits files.old files.new (λ old new. AnswersJob (list file.now workers) old new result) }
+    ensures reads { (told : List ℕ → Option (List ℕ)) → F.fits files.new told →
+        LoadedList F.reads (told file.now) file.now files.old files.new }
 {
     match load(alloc, files, file, LIST_BYTES as u32) {
         Ok(bytes) => answer_list(rt, alloc, files, &bytes, workers, gate),
@@ -59,7 +60,7 @@ fn answer_list<R: Threads + Wait + Sync, F: Files, G: Gate>(
 ) -> Answer
     requires { IsWorkers workers }
     ensures kept { FilesKept (F.seen files.old) (F.seen files.new) }
-    ensures answers { AnswersList workers bytes.now (F.seen files.old) (F.seen files.new) result }
+    ensures answers { Whatever F.seen F.fits files.old files.new (λ old new. AnswersList workers bytes.now old new result) }
     ensures reads { LoadedLines F.reads bytes.now files.old files.new }
 {
     match read_list(alloc, bytes) {
@@ -102,7 +103,7 @@ fn answer_lines<R: Threads + Wait + Sync, F: Files, G: Gate>(
     requires workers { IsWorkers workers }
     requires fit { LinesFit lines.now }
     ensures kept { FilesKept (F.seen files.old) (F.seen files.new) }
-    ensures answers { AnswersLines workers lines.now (F.seen files.old) (F.seen files.new) result }
+    ensures answers { Whatever F.seen F.fits files.old files.new (λ old new. AnswersLines workers lines.now old new result) }
     ensures reads { LoadedEach F.reads lines.now files.old files.new }
 {
     let mut programs = Vec::new(alloc);
@@ -141,7 +142,8 @@ fn load_programs<F: Files>(
     requires { All LineFits lines.now }
     ensures kept { FilesKept (F.seen files.old) (F.seen files.new) }
     ensures judged { OnOk result ((more : List Judged) ×
-        (programs.new.items ≡ programs.old.items ++ more) × AreJudgedIn (F.seen files.old) lines.now more) }
+        (programs.new.items ≡ programs.old.items ++ more) ×
+        Whatever F.seen F.fits files.old files.new (λ old new. AreJudgedIn old lines.now more)) }
     ensures quiet { OnOk result ((F.seen files.new).faults ≡ (F.seen files.old).faults) }
     ensures not_loaded { IfErr result (NotLoaded (LacksOne (F.seen files.old) lines.now) (F.seen files.old) (F.seen files.new)) }
     ensures reads { LoadedEach F.reads lines.now files.old files.new }
@@ -165,7 +167,8 @@ fn add_program<F: Files>(
     requires { LineFits line.now }
     ensures kept { FilesKept (F.seen files.old) (F.seen files.new) }
     ensures judged { OnOk result ((j : Judged) × (programs.new.items ≡ programs.old.items ++ j ∷ []) ×
-        OfFile (F.seen files.old) line.now.file (λ bytes. IsJudged (listed line.now.budget bytes) j)) }
+        Whatever F.seen F.fits files.old files.new (λ old new.
+        OfFile old line.now.file (λ bytes. IsJudged (listed line.now.budget bytes) j))) }
     ensures quiet { OnOk result ((F.seen files.new).faults ≡ (F.seen files.old).faults) }
     ensures not_loaded { IfErr result (NotLoaded (IsTrue ((F.seen files.old).lacks line.now.file)) (F.seen files.old) (F.seen files.new)) }
     ensures reads { LoadedBy F.reads line.now.file most_program_bytes files.old files.new }
@@ -191,7 +194,8 @@ fn load_program<F: Files>(
 ) -> Result<Judged, LoadError>
     requires { LineFits line.now }
     ensures kept { FilesKept (F.seen files.old) (F.seen files.new) }
-    ensures judged { IfOk result (λ j. OfFile (F.seen files.old) line.now.file (λ bytes. IsJudged (listed line.now.budget bytes) j)) }
+    ensures judged { IfOk result (λ j. Whatever F.seen F.fits files.old files.new (λ old new.
+        OfFile old line.now.file (λ bytes. IsJudged (listed line.now.budget bytes) j))) }
     ensures quiet { OnOk result ((F.seen files.new).faults ≡ (F.seen files.old).faults) }
     ensures not_loaded { IfErr result (NotLoaded (IsTrue ((F.seen files.old).lacks line.now.file)) (F.seen files.old) (F.seen files.new)) }
     ensures reads { LoadedBy F.reads line.now.file most_program_bytes files.old files.new }

@@ -9,7 +9,7 @@ ghost use Rattle.goi_world.specs.Seen.{FilesKept};
 ghost use Rattle.goi_tasks.specs.Calls.{ReportsCall, FaultyCall};
 ghost use Rattle.goi_tasks.specs.Parts.{NumbersOf};
 ghost use Rattle.goi_engine.specs.Answers.{AnswersFile, Says};
-ghost use Rattle.goi_engine.specs.FilesSeen.{LoadedBy};
+ghost use Rattle.goi_engine.specs.FilesSeen.{Whatever, LoadedBy};
 
 use crate::answer::{Answer, not_loaded, stopped};
 use crate::load::load;
@@ -42,8 +42,8 @@ pub(crate) fn answer_call<R: Threads + Wait + Sync, F: Files, G: Gate>(
     requires budget { IsBudget budget }
     requires unwatched { shown.progress ≡ false }
     ensures kept { FilesKept (F.seen files.old) (F.seen files.new) }
-    ensures answers { AnswersFile (ReportsCall workers budget shown numbers.now) (FaultyCall numbers.now) file.now
-        (F.seen files.old) (F.seen files.new) result }
+    ensures answers { Whatever F.seen F.fits files.old files.new (λ old new.
+        AnswersFile (ReportsCall workers budget shown numbers.now) (FaultyCall numbers.now) file.now old new result) }
     ensures reads { LoadedBy F.reads file.now most_program_bytes files.old files.new }
 {
     let run = |net: &Net, budget: u32| -> Result<Ended, AllocError>
@@ -79,8 +79,8 @@ fn call_file<F: Files, C: Crew>(
     requires workers { IsWorkers (C.count crew.now) }
     requires reads { (moves : ℕ) (read : List ℕ) → C.reads crew.now moves read → NumbersOf shown.progress moves read }
     ensures kept { FilesKept (F.seen files.old) (F.seen files.new) }
-    ensures answers { AnswersFile (ReportsCall (C.count crew.now) budget shown numbers.now) (FaultyCall numbers.now) file.now
-        (F.seen files.old) (F.seen files.new) result }
+    ensures answers { Whatever F.seen F.fits files.old files.new (λ old new.
+        AnswersFile (ReportsCall (C.count crew.now) budget shown numbers.now) (FaultyCall numbers.now) file.now old new result) }
     ensures reads { LoadedBy F.reads file.now most_program_bytes files.old files.new }
 {
     match load(alloc, files, file, PROGRAM_BYTES as u32) {

@@ -1,12 +1,12 @@
 //! Reading a file, piece by piece, up to one byte more than its limit.
 
-ghost use Rattle.std.specs.Prelude.{◌≡◌, ◌⊎◌, ◌<◌, ◌≤◌, ◌+◌, ℕ, IsTrue, length, take, IsErr, OnOk, IfOk, IfSome, IsErrOf};
-ghost use Rattle.goi_world.specs.Outside.{Rose};
-ghost use Rattle.goi_world.specs.Told.{reading};
+ghost use Rattle.std.specs.Prelude.{◌≡◌, ◌⊎◌, ◌<◌, ◌≤◌, ◌+◌, ℕ, List, Option, IsTrue, length, take, IsErr, OnOk, IfOk, IfSome, IsErrOf};
+ghost use Rattle.goi_world.specs.Outside.{Rose, with_given};
+ghost use Rattle.goi_world.specs.Told.{read_of};
 ghost use Rattle.goi_world.specs.Seen.{FilesKept};
 ghost use Rattle.pcf_values.specs.Most.{most_schedule_bytes};
 ghost use Rattle.goi_engine.specs.FilesSeen.{LoadedBy};
-ghost use Rattle.goi_engine.specs.Loads.{Loads};
+ghost use Rattle.goi_engine.specs.Loads.{Loads, GoesOn};
 ghost use Rattle.goi_engine.specs.declared.load.LoadError.TheVariants.{Memory};
 
 use goi_world::Files;
@@ -43,7 +43,8 @@ pub(crate) fn load<F: Files>(
 ) -> Result<Vec<u8>, LoadError>
     requires { limit ≤ most_schedule_bytes }
     ensures kept { FilesKept (F.seen files.old) (F.seen files.new) }
-    ensures bytes { IfOk result (λ v. IfSome ((F.seen files.old).told name.now) (λ bytes. v.items ≡ take (limit + 1) bytes)) }
+    ensures bytes { IfOk result (λ v. (told : List ℕ → Option (List ℕ)) → F.fits files.new told →
+        IfSome (told name.now) (λ bytes. v.items ≡ take (limit + 1) bytes)) }
     ensures no_further { IfOk result (λ v. length v.items ≤ limit + 1) }
     ensures reads { LoadedBy F.reads name.now limit files.old files.new }
     ensures lacked { IsTrue ((F.seen files.old).lacks name.now) → IsErr result }
@@ -86,9 +87,12 @@ fn load_piece<F: Files>(
     requires some { 0 < length piece.old }
     requires room { length bytes.old.items + length piece.old ≤ limit + 1 }
     ensures kept { FilesKept (F.seen files.old) (F.seen files.new) }
-    ensures reads { (room : ℕ) × (length bytes.old.items + room ≤ limit + 1) ×
-        F.reads files.old (reading name.now (length bytes.old.items) room) files.new }
-    ensures loads { IfOk result (λ n. Loads limit ((F.seen files.old).told name.now) bytes.old.items bytes.new.items n) }
+    ensures reads { (room : ℕ) × (gave : Option (List ℕ)) × (length bytes.old.items + room ≤ limit + 1) ×
+        F.reads files.old (read_of name.now (length bytes.old.items) room gave) files.new ×
+        OnOk result (with_given bytes.old.items gave ≡ bytes.new.items) }
+    ensures loads { IfOk result (λ n. Loads limit bytes.old.items bytes.new.items n) }
+    ensures goes_on { IfOk result (λ n. (told : List ℕ → Option (List ℕ)) → F.fits files.new told →
+        GoesOn (told name.now) bytes.old.items bytes.new.items n) }
     ensures lacked { IsTrue ((F.seen files.old).lacks name.now) → IsErr result }
     ensures ok { OnOk result ((F.seen files.new).faults ≡ (F.seen files.old).faults) }
     ensures memory { IsErrOf result LoadError.Memory → (F.seen files.new).faults ≡ (F.seen files.old).faults }

@@ -1,11 +1,12 @@
 //! The top call.
 
 ghost use Rattle.std.specs.Prelude.{map, string_bytes};
+ghost use Rattle.goi_engine.specs.FilesSeen.{Whatever};
 ghost use Rattle.goi_engine.specs.Writes.{ByWrites};
 ghost use Rattle.goi_words.specs.Asked.{job};
 ghost use Rattle.goi_engine.specs.Calls.{call};
 ghost use Rattle.goi_engine.specs.Promise.{Promise};
-ghost use Rattle.goi_engine.specs.Verdicts.{ReadFor};
+ghost use Rattle.goi_engine.specs.Verdicts.{ReadAsFits};
 
 use crate::answer::answer_to;
 use crate::deliver::deliver;
@@ -46,10 +47,11 @@ pub fn goi<R: Threads + Wait + Sync, F: Files, O: Sink, E: Sink, G: Gate>(
     gate: &G,
 ) -> u8
     ensures promise { ByWrites O.seen O.writes out.old out.new (λ o. ByWrites E.seen E.writes err.old err.new (λ e.
-        Promise (job (map string_bytes words.now)) (call (F.seen files.old) (F.seen files.new) o e) result)) }
+        Whatever F.seen F.fits files.old files.new (λ old new.
+        Promise (job (map string_bytes words.now)) (call old new o e) result))) }
 
     // The files are read for the job alone, and not too often.
-    ensures reads { ReadFor F.reads (F.seen files.old).told (job (map string_bytes words.now)) files.old files.new }
+    ensures reads { ReadAsFits F.reads F.fits (job (map string_bytes words.now)) files.old files.new }
 {
     law_one_program();
     law_one_listing();

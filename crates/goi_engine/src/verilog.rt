@@ -2,7 +2,7 @@
 
 ghost use Rattle.pcf_values.specs.Most.{most_program_bytes};
 ghost use Rattle.goi_engine.specs.Answers.{AnswersFile, Says};
-ghost use Rattle.goi_engine.specs.FilesSeen.{LoadedBy};
+ghost use Rattle.goi_engine.specs.FilesSeen.{Whatever, LoadedBy};
 ghost use Rattle.goi_jobs.specs.Verilogs.{IsPrinted};
 ghost use Rattle.goi_tasks.specs.Verilogs.{ReportsVerilog, FaultyVerilog};
 ghost use Rattle.goi_world.specs.Seen.{FilesKept};
@@ -25,8 +25,8 @@ pub(crate) fn answer_verilog<F: Files>(
 ) -> Answer
     requires printed { IsPrinted verilog }
     ensures kept { FilesKept (F.seen files.old) (F.seen files.new) }
-    ensures answers { AnswersFile (ReportsVerilog name.now verilog) (FaultyVerilog verilog) file.now
-        (F.seen files.old) (F.seen files.new) result }
+    ensures answers { Whatever F.seen F.fits files.old files.new (λ old new.
+        AnswersFile (ReportsVerilog name.now verilog) (FaultyVerilog verilog) file.now old new result) }
     ensures reads { LoadedBy F.reads file.now most_program_bytes files.old files.new }
 {
     match load(alloc, files, file, PROGRAM_BYTES as u32) {
