@@ -2,11 +2,19 @@
 //! top call, and ends with the status that this answers.
 #![tactic(auto)]
 
+ghost use Rattle.std.specs.Prelude.{◌≡◌, map, string_bytes};
+ghost use Rattle.goi_world.specs.FilesOnDisk.{unread_files};
+ghost use Rattle.goi_world.specs.SinkOfWriter.{unwritten};
+ghost use Rattle.goi_engine.specs.OnSystem.{SystemRuns, SystemCalls};
+
 use gate_workers::OpenGate;
 use goi_engine::{goi, tell_no_memory};
 use goi_world::{DiskFiles, StdSink};
+use std::io::Write;
 use std::process::ExitCode;
-use std::rt::Env;
+use std::rt::{Env, Files};
+use std::sync::Wait;
+use std::thread::Threads;
 use std::{env, io};
 
 /// Calls `goi` on what the process was given, and ends with its status.
@@ -23,9 +31,25 @@ fn main(rt: HostRuntime) -> ExitCode {
         // Words that aren't text ask for nothing, as no words do.
         Err(_) => Vec::new(alloc),
     };
-    ExitCode::from(goi(
-        &rt, alloc, &words, &mut files, &mut out, &mut err, &OpenGate,
-    ))
+    ExitCode::from(answer(&rt, &words, &mut files, &mut out, &mut err))
+}
+
+/// Does what the words ask for, and gives the status. Of a plain run by name and of a plain call: with status 0, 5 or 1 what the two
+/// writers took is what the bytes come to that the system's reads gave.
+fn answer<R: Files + AllocGlobal + Threads + Wait + Sync, O: Write, E: Write>(
+    rt: &R,
+    words: &[String],
+    files: &mut DiskFiles<'_, R>,
+    out: &mut StdSink<O>,
+    err: &mut StdSink<E>,
+) -> u8
+    requires files { files.old ≡ unread_files }
+    requires out { out.old ≡ unwritten }
+    requires err { err.old ≡ unwritten }
+    ensures runs { SystemRuns (map string_bytes words.now) files.new out.new err.new result }
+    ensures calls { SystemCalls (map string_bytes words.now) files.new out.new err.new result }
+{
+    goi(rt, rt.alloc(), words, files, out, err, &OpenGate)
 }
 
 /// The words of the process, its own name first.
