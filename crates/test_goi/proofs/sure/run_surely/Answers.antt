@@ -1,7 +1,7 @@
 -- What the promise says where the devices are sure and the job is a run.
 use Rattle.std.proofs.Common.{◌≡◌, ℕ, ◌≤◌, List, length, Option, Some, None, refl, sym, ap, ◌∙◌, subst, arith}
-use Rattle.goi_world.specs.FilesInMemory.{memory_files_seen}
-use Rattle.goi_world.specs.Seen.{FilesState}
+use Rattle.goi_world.specs.FilesInMemory.{memory_files_seen, told_by}
+use Rattle.goi_world.specs.Seen.{FilesState, holding}
 use Rattle.goi_engine.specs.FilesSeen.{Possibly}
 use Rattle.goi_jobs.specs.Jobs.{JobTree, text}
 use Rattle.goi_jobs.specs.Tasks.{nothing_shown}
@@ -38,7 +38,8 @@ one_job asked j k e f = let same : Some j ≡ Some k = sym e ∙ f in cc
 
 pub returns : goal.returns
 returns g c =
-    let p = c.goi.ensures.promise.2.2 in
+    let told = told_by c.goi.new.files in
+    let p = c.goi.ensures.promise.2.2 told refl in
     record {
       written = λ file workers budget calling asked. p.sure (record {
         out = λ j o e h. let short = run_short j _ file workers budget calling o
@@ -49,7 +50,7 @@ returns g c =
       });
       read = λ file workers budget calling asked status.
           let m = p.means.not_read status in
-          let files = memory_files_seen c.args.files.now in
+          let files = holding told (memory_files_seen c.args.files.now) in
           subst (λ (j : JobTree). LacksFor j files) (one_job _ m.0 (plain_run file workers budget calling) m.1 asked)
           (m.2.1.sure c.requires.files);
     }
