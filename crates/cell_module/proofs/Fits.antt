@@ -18,8 +18,8 @@ use Rattle.circuit_module.proofs.Sizes.{few_bits, enough_bits}
 use Rattle.circuit_module.specs.InRange.{Named, RowFits, InRange}
 use Rattle.circuit_module.specs.Module.{row_stmt, place_said, row_arm, row_arms, multiplies}
 use Rattle.cell_module.specs.Module.{place_bits, pointer_bits, cell_product, cell_module_with, cell_module}
-use Rattle.verilog_tree.specs.WellFormed.{block_reads, arms_read, in_order, small, size_fits, Limits, limits_of, limits, plain, stmt_fits}
-use Rattle.verilog_tree.specs.WellFormed.{arms_fit, items_fit}
+use Rattle.verilog_tree.specs.WellFormed.{block_reads, arms_read, in_order, small, told, size_fits, Limits, limits_of, limits, plain}
+use Rattle.verilog_tree.specs.WellFormed.{stmt_fits, arms_fit, items_fit}
 use Rattle.verilog_tree.proofs.Own.{one_name}
 use Rattle.cell_module.specs.Laws.{Printable}
 
@@ -163,13 +163,20 @@ place_plain (falls w) i = refl
 pub small_is : (n : ℕ) → n < 2 ^ 31 → small n ≡ true
 small_is n h = lt-ltb n (2 ^ 31) h
 
+over : 2 ^ 64 < 10 ^ 64
+over = omega arith
+
+-- a number of 64 bits is told by its text
+pub told_is : (n : ℕ) → n < 2 ^ 64 → told n ≡ true
+told_is n h = let t = over in lt-ltb n (10 ^ 64) (omega arith)
+
 module _ (L : Limits) (W : ℕ) (few : 2 * W < 2 ^ 31) where
   pub low : (c : Channel) → Named W c → small (number c) ≡ true
   low c h = small_is (number c) (omega arith)
 
   pub row_fits : (r : Row) → RowFits W r → stmt_fits L (row_stmt r) ≡ true
   row_fits (GO c) h = low c h
-  row_fits (CONST n c) h = ap (λ b. b && true) (low c h.1)
+  row_fits (CONST n c) h = and_from (small (number c)) (told n) (low c h.1) (told_is n h.0)
   row_fits (SUCC c) h = low c h
   row_fits (PRED c) h = low c h
   row_fits (TEST c d) h = and_from (small (number c)) (small (number d)) (low c h.0) (low d h.1)
@@ -519,11 +526,12 @@ module _ (wires : ℕ) (z : Sizes) (some : 0 < wires) (few : 2 * wires < 2 ^ 31)
     limits_known q = knows P q sized
 
   -- the sizes that are declared are small
-  pub sizes_small : (t : Bool) → t ≡ true →
+  pub sizes_small : (start : ℕ) → start < 2 * wires → (t : Bool) → t ≡ true →
       (small (channel_bits wires) && (small (place_bits z.forks) && (small (place_bits z.cells) && (small (pointer_bits z.cells) &&
       (small (max 1 z.marks) && (small (pointer_bits z.cells * max 1 z.sigs) && (small (pointer_bits z.cells * max 1 z.boxes) &&
-      (small z.cells && (small z.forks && ((nat_lt 0 (channel_bits wires) && small (channel_bits wires)) && t)))))))))) ≡ true
-  sizes_small t h =
+      (small z.cells && (small z.forks && (((nat_lt 0 (channel_bits wires) && small (channel_bits wires)) && told start) && t))))))))))
+      ≡ true
+  sizes_small start at t h =
       let o = high in let pf = place_few z.cells it.few_cells in let sf = place_few z.forks it.few_forks in
       let fm = it.few_marks in let fs = it.few_sigs in let fb = it.few_boxes in let cf = c_few in
       let w = small_is (channel_bits wires) (omega arith) in
@@ -532,10 +540,10 @@ module _ (wires : ℕ) (z : Sizes) (some : 0 < wires) (few : 2 * wires < 2 ^ 31)
       (and_from _ _ (small_is (pointer_bits z.cells * max 1 z.sigs) (omega arith))
       (and_from _ _ (small_is (pointer_bits z.cells * max 1 z.boxes) (omega arith))
       (and_from _ _ (small_is z.cells it.few_cells) (and_from _ _ (small_is z.forks it.few_forks)
-      (and_from _ _ (and_from _ _ (lt-ltb 0 (channel_bits wires) c_some) w) h)))))))))
+      (and_from _ _ (and_from _ _ (and_from _ _ (lt-ltb 0 (channel_bits wires) c_some) w) (told_is start (omega arith))) h)))))))))
 
-module _ (wires start : ℕ) (z : Sizes) (rows : Arms) (some : 0 < wires) (few : 2 * wires < 2 ^ 31) (it : Printable z)
-    (r : (M : Limits) → arms_fit M rows ≡ true) where
+module _ (wires start : ℕ) (z : Sizes) (rows : Arms) (some : 0 < wires) (few : 2 * wires < 2 ^ 31) (at : start < 2 * wires)
+    (it : Printable z) (r : (M : Limits) → arms_fit M rows ≡ true) where
   declares : (b : Bool) → Declares (scope (cell_module_with wires start z rows (cell_product b))) wires z
   declares b = record {
     C = refl;
@@ -563,8 +571,8 @@ module _ (wires start : ℕ) (z : Sizes) (rows : Arms) (some : 0 < wires) (few :
       by_sizes : (b : Bool) →
           items_fit (known (limits (cell_module_with wires start z rows (cell_product b))) widths_known positive_known parts_known
           bits_known) (cell_module_with wires start z rows (cell_product b)) ≡ true
-      by_sizes true = sizes_small wires z some few it _ (ap (λ t. t && true) (r _))
-      by_sizes false = sizes_small wires z some few it _ (ap (λ t. t && true) (r _))
+      by_sizes true = sizes_small wires z some few it start at _ (ap (λ t. t && true) (r _))
+      by_sizes false = sizes_small wires z some few it start at _ (ap (λ t. t && true) (r _))
 
 -- a net in range has a wire
 pub has_wire : (net : NetTree) → InRange net → 0 < length net.wires
@@ -580,5 +588,5 @@ fits_all net r z it =
     and_from _ _
     (ordered_with (length net.wires) (number (channel_of (start_of net))) z (row_arms net 0 (length net.wires)) (multiplies net.nodes)
     (λ p. rows_read p net 0 (length net.wires)))
-    (fits_with (length net.wires) (number (channel_of (start_of net))) z (row_arms net 0 (length net.wires)) (has_wire net r) r.few it
-    (λ M. rows_fit M net r 0 (length net.wires)) (multiplies net.nodes))
+    (fits_with (length net.wires) (number (channel_of (start_of net))) z (row_arms net 0 (length net.wires)) (has_wire net r) r.few r.start
+    it (λ M. rows_fit M net r 0 (length net.wires)) (multiplies net.nodes))

@@ -19,8 +19,8 @@ ordered_with : (wires start : ℕ) (z : Sizes) (rows : Arms) → ((p : String �
     in_order (late_module_with wires start z rows) ≡ true
 ordered_with wires start z rows h = ap (λ t. (t && true) && true) (h _)
 
-module _ (wires start : ℕ) (z : Sizes) (rows : Arms) (some : 0 < wires) (few : 2 * wires < 2 ^ 31) (it : Printable z)
-    (r : (M : Limits) → arms_fit M rows ≡ true) where
+module _ (wires start : ℕ) (z : Sizes) (rows : Arms) (some : 0 < wires) (few : 2 * wires < 2 ^ 31) (at : start < 2 * wires)
+    (it : Printable z) (r : (M : Limits) → arms_fit M rows ≡ true) where
   declares : Declares (scope (late_module_with wires start z rows)) wires z
   declares = record {
     C = refl;
@@ -42,7 +42,7 @@ module _ (wires start : ℕ) (z : Sizes) (rows : Arms) (some : 0 < wires) (few :
   fits_with : items_fit (limits (late_module_with wires start z rows)) (late_module_with wires start z rows) ≡ true
   fits_with =
       ap (λ M. items_fit M (late_module_with wires start z rows)) (limits_known wires z some few it _ declares _)
-      ∙ sizes_small wires z some few it _ (ap (λ t. t && true) (r _))
+      ∙ sizes_small wires z some few it start at _ (ap (λ t. t && true) (r _))
 
 pub fits_all : (net : NetTree) → InRange net → (z : Sizes) → Printable z →
     (in_order (late_module net z) && items_fit (limits (late_module net z)) (late_module net z)) ≡ true
@@ -50,5 +50,5 @@ fits_all net r z it =
     and_from _ _
     (ordered_with (length net.wires) (number (channel_of (start_of net))) z (row_arms net 0 (length net.wires))
     (λ p. rows_read p net 0 (length net.wires)))
-    (fits_with (length net.wires) (number (channel_of (start_of net))) z (row_arms net 0 (length net.wires)) (has_wire net r) r.few it
-    (λ M. rows_fit M net r 0 (length net.wires)))
+    (fits_with (length net.wires) (number (channel_of (start_of net))) z (row_arms net 0 (length net.wires)) (has_wire net r) r.few r.start
+    it (λ M. rows_fit M net r 0 (length net.wires)))

@@ -21,8 +21,8 @@ use Rattle.circuit_module.specs.InRange.{Named, RowFits, InRange}
 use Rattle.circuit_module.specs.Fixed.{block}
 use Rattle.circuit_module.specs.Module.{place_said, multiplies}
 use Rattle.cell_module.specs.Laws.{Printable}
-use Rattle.cell_module.proofs.Fits.{low, row_fits, place_plain, known, widths_known, positive_known, parts_known, bits_known, Declares}
-use Rattle.cell_module.proofs.Fits.{limits_known, sizes_small, has_wire}
+use Rattle.cell_module.proofs.Fits.{low, told_is, row_fits, place_plain, known, widths_known, positive_known, parts_known, bits_known}
+use Rattle.cell_module.proofs.Fits.{Declares, limits_known, sizes_small, has_wire}
 use Rattle.port_module.specs.Names.{held_name}
 use Rattle.port_module.specs.Module.{port_at, constant_stmt, port_stmt, port_arm, port_arms, arg_inputs, arg_notes, held_regs}
 use Rattle.port_module.specs.Module.{held_registers, held_sets, parts_of, port_clock, port_module_with}
@@ -38,7 +38,7 @@ module _ (L : Limits) (W : ℕ) (few : 2 * W < 2 ^ 31) where
   port_fits ps k (CONST n c) h = go (port_at 0 ps k)
     where
       go : (o : Option ℕ) → stmt_fits L (constant_stmt o n c) ≡ true
-      go None = ap (λ b. b && true) (low L W few c h.1)
+      go None = and_from _ _ (low L W few c h.1) (told_is n h.0)
       go (Some i) = ap (λ b. b && true) (low L W few c h.1)
   port_fits ps k (GO c) h = row_fits L W few (GO c) h
   port_fits ps k (SUCC c) h = row_fits L W few (SUCC c) h
@@ -211,7 +211,8 @@ mixed_is f g h = λ i x. go x (own x) refl i
     go x false e = refl
 
 -- the limits of the module, and that what it declares keeps within them
-module _ (wires start : ℕ) (z : Sizes) (rows : Arms) (some : 0 < wires) (few : 2 * wires < 2 ^ 31) (it : Printable z) where
+module _ (wires start : ℕ) (z : Sizes) (rows : Arms) (some : 0 < wires) (few : 2 * wires < 2 ^ 31) (at : start < 2 * wires)
+    (it : Printable z) where
   module _ (n : ℕ) (r : (M : Limits) → arms_fit M rows ≡ true)
       (reads_held : (p : String → Bool) → ((j : ℕ) → p (held_name j) ≡ true) → arms_read p rows ≡ true) where
     -- one of the three modules
@@ -321,8 +322,8 @@ module _ (wires start : ℕ) (z : Sizes) (rows : Arms) (some : 0 < wires) (few :
 
     front_fits : (late m : Bool) → items_fit (K late m) (held_registers n ++ back late m) ≡ true →
         items_fit (K late m) (D late m ++ (held_registers n ++ back late m)) ≡ true
-    front_fits false m h = sizes_small wires z some few it _ h
-    front_fits true m h = sizes_small wires z some few it _ h
+    front_fits false m h = sizes_small wires z some few it start at _ h
+    front_fits true m h = sizes_small wires z some few it start at _ h
 
     fits : (late m : Bool) → items_fit (limits (all late m)) (all late m) ≡ true
     fits late m =
@@ -334,13 +335,16 @@ module _ (wires start : ℕ) (z : Sizes) (rows : Arms) (some : 0 < wires) (few :
 abbrev both_fit : List Item → Bool
 both_fit is = in_order is && items_fit (limits is) is
 
+-- declared once, in order, and within the limits
 pub well_formed : PortModuleIsWellFormed
 well_formed late net r z it ps few =
     let o = has_wire net r in
     and_from _ _ (declared_once late net z ps few)
     (ap both_fit (ported_is late net z ps)
     ∙ and_from _ _
-    (ordered (length net.wires) (number (channel_of (start_of net))) z (port_arms ps net 0 (length net.wires)) o r.few it (length ps)
-    (λ M. rows_fit M net r ps 0 (length net.wires)) (λ p h. rows_read p h ps net 0 (length net.wires)) late (multiplies net.nodes))
-    (fits (length net.wires) (number (channel_of (start_of net))) z (port_arms ps net 0 (length net.wires)) o r.few it (length ps)
-    (λ M. rows_fit M net r ps 0 (length net.wires)) (λ p h. rows_read p h ps net 0 (length net.wires)) late (multiplies net.nodes)))
+    (ordered (length net.wires) (number (channel_of (start_of net))) z (port_arms ps net 0 (length net.wires)) o r.few r.start it
+    (length ps) (λ M. rows_fit M net r ps 0 (length net.wires)) (λ p h. rows_read p h ps net 0 (length net.wires)) late
+    (multiplies net.nodes))
+    (fits (length net.wires) (number (channel_of (start_of net))) z (port_arms ps net 0 (length net.wires)) o r.few r.start it
+    (length ps) (λ M. rows_fit M net r ps 0 (length net.wires)) (λ p h. rows_read p h ps net 0 (length net.wires)) late
+    (multiplies net.nodes)))

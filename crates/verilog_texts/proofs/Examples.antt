@@ -7,6 +7,7 @@ use Rattle.verilog_texts.specs.Examples.{short_number, long_number, ExampleSameT
 different : short_number ≡ long_number → ⊥
 different e = omega (arith, e)
 
+-- each part by computing
 pub example_same_texts : ExampleSameTexts
 unfolding module_text digits
 example_same_texts = record {
@@ -14,6 +15,7 @@ example_same_texts = record {
   indexes = refl;
   order = (refl, refl, refl);
   same_edges = λ S. refl;
-  long = (refl, refl, refl);
+  long = refl;
   other_edges = λ S e. different e;
+  refused = refl;
 }

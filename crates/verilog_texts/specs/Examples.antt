@@ -1,5 +1,5 @@
 -- Trees that print alike. The prover computes them.
-use Rattle.std.specs.Prelude.{◌≡◌, ◌≢◌, ◌+◌, ◌^◌, ℕ, true, List, [], ◌∷◌}
+use Rattle.std.specs.Prelude.{◌≡◌, ◌≢◌, ◌+◌, ◌^◌, ℕ, true, false, List, [], ◌∷◌}
 use Rattle.verilog_tree.specs.Tree.{count, sized, const, name, bit, word, whole, skip, put, seq, Stmt, one, wide, Item, input}
 use Rattle.verilog_tree.specs.Tree.{reg, clocked}
 use Rattle.verilog_tree.specs.Meaning.{Store, edge}
@@ -33,7 +33,8 @@ pub record ExampleSameTexts : Type 0 where
   pub order : PrintAlike (module_of (seq (seq (sets 1) (sets 2)) (sets 3))) (module_of (seq (sets 1) (seq skip (seq (sets 2) (sets 3)))))
   pub same_edges : (S : Store) →
       edge (module_of (seq (seq (sets 1) (sets 2)) (sets 3))) S ≡ edge (module_of (seq (sets 1) (seq skip (seq (sets 2) (sets 3))))) S
-  -- numbers of more than 64 digits: other edges
-  pub long : PrintAlike (module_of (sets short_number)) (module_of (sets long_number))
+  -- a number of more than 64 digits prints as another one and means itself, and no module has it
+  pub long : module_text "m" (module_of (sets short_number)) ≡ module_text "m" (module_of (sets long_number))
   pub other_edges : (S : Store) →
       (edge (module_of (sets short_number)) S).vec "a" ≢ (edge (module_of (sets long_number)) S).vec "a"
+  pub refused : WellFormed (module_of (sets long_number)) ≡ false

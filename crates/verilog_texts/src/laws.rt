@@ -8,8 +8,8 @@ pub fn law_expression()
     ensures { OneExpression }
 {}
 
-/// Trees that print alike and aren't one. Two modules of them have the same edges; two others, in which a number has more than 64 digits,
-/// have different ones.
+/// Trees that print alike and aren't one. Two modules of them have the same edges; a tree in which a number has more than 64 digits has
+/// others than the one that prints alike, and is no module.
 pub fn law_example_same_texts()
     ensures { ExampleSameTexts }
 {}

@@ -7,7 +7,7 @@
 -- doesn't set. All widths and sizes are positive, and they and numbers without a width are below 2 ^ 31; no comparison is one of signed
 -- numbers, which those without a width are; a part has its higher bound first; each arm but the last has a label. An index that reads
 -- nothing lies within what it indexes, and so do both bounds of a part; of an index that reads something this isn't asked (the meaning has
--- bounds). No comment begins with a word by which tools are told what to do.
+-- bounds). No number has more digits than its text. No comment begins with a word by which tools are told what to do.
 use Rattle.std.specs.Prelude.{ℕ, ◌+◌, ◌^◌, Bool, true, false, not, ◌&&◌, ◌||◌, List, [], ◌∷◌, ◌++◌, nat_eq, nat_le, nat_lt, codes}
 use Prim.Native.String.{String}
 use lib.Text.{eqt}
@@ -420,6 +420,10 @@ in_order (i ∷ is) = in_order is
 abbrev pub small : ℕ → Bool
 small n = nat_lt n (2 ^ 31)
 
+-- a number that its text tells: of a greater one the text has the last 64 digits alone
+abbrev pub told : ℕ → Bool
+told n = nat_lt n (10 ^ 64)
+
 -- a size is small, and nothing in it goes below 0
 abbrev pub size_fits : (String → ℕ) → Size → Bool
 size_fits p (count n) = small n
@@ -494,7 +498,7 @@ bare q e = false
 -- an expression in which all of this is so
 abbrev pub expr_fits : Limits → Expr → Bool
 expr_fits L (num n) = small n
-expr_fits L (sized w n) = true
+expr_fits L (sized w n) = told n
 expr_fits L (const x) = true
 expr_fits L (name x) = true
 expr_fits L (bit x e) = L.at_bit x e && expr_fits L e
@@ -565,7 +569,7 @@ abbrev pub item_fits : Limits → Item → Bool
 item_fits L (note s) = plain (codes s)
 item_fits L gap = true
 item_fits L (size x n) = small n
-item_fits L (constant w x n) = width_fits L w
+item_fits L (constant w x n) = width_fits L w && told n
 item_fits L (input w x) = width_fits L w
 item_fits L (output w x) = width_fits L w
 item_fits L (reg w x) = width_fits L w
