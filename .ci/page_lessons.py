@@ -198,6 +198,7 @@ def try_guess(page, window, walks):
         page.judge(f"{walk.name}: none at the first go", window.script("return document.getElementById('guess-count').textContent"),
                    f"0 of {len(moves)} at the first go")
     double = walks[0]
+    window.open("about:blank")
     window.open(double.address + "#move=3&guess=1")
     window.script("walk.setSpeed(500)")
     page.judge("the fields have the token", window.script(SAY, 3, {"wire": "9"})["asked"], {"wire": "", "value": "?", "work": "-", "boxes": "-"})

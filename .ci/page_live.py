@@ -307,6 +307,21 @@ def try_typed(page, window, program, folder):
     page.judge("keys of the walk stay out of the box", window.script("return walk.view.program"), "(fun x:nat. x * x) 12")
     window.script("document.getElementById('own-check').click()")
     page.judge("checked", waits(window, SAID + ".startsWith('type nat\\nterm (fun x:nat. x * x) 12')"))
+    window.script("document.getElementById('own-text').focus()")
+    window.keys(page.ESCAPE + page.RIGHT)
+    there = (page.comes(window, 1), window.script("return document.activeElement.id"))
+    page.judge("from the text to the picture by a key, where arrows walk", there, (1, "picture"))
+    found = window.script("""
+      return (async () => {
+        machine.asking.module = null;
+        const answer = machine.ask("goi_check", ["1"], [1]);
+        document.body.classList.add("busy");
+        const said = getComputedStyle(document.getElementById("own-said"), "::before").content;
+        await answer;
+        document.body.classList.remove("busy");
+        return [said, document.body.classList.contains("waking")];
+      })();""")
+    page.judge("what is said while the module is compiled", found, ['"the machine is being made ready"', False])
 
 
 CONTROL, ENTER = "\ue009", "\ue007"
