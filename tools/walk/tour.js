@@ -21,6 +21,7 @@ const tour = { at: -1, before: null };
 function beginTour() {
   if (tour.at < 0) tour.before = view.run ? { data: shownData(), at: view.run.state.at } : null;
   if (view.wall) setWall(false);
+  if (guess.on) setGuess(false);
   setMenu(false);
   openWalk(JSON.parse(byId("first-data").textContent));
   goToStop(0);
