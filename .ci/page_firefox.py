@@ -102,11 +102,13 @@ class Firefox:
                 return told["result"]
 
     def open(self, address):
-        """Opens a page, and waits until it is the one in which scripts run: that can be a while after Firefox says so."""
+        """Opens a page, and waits until it is the one in which scripts run: that can be a while after Firefox says so. (Where only what is
+        behind the # differs the page stays.)"""
+        before = self.script("window.isBefore = true; return location.href.split('#')[0]")
         self.asked("browsingContext.navigate", context=self.context, url=address, wait="complete")
-        there = "return document.readyState === 'complete' && location.href.split('#')[0] === arguments[0].split('#')[0]"
+        there = "return document.readyState === 'complete' && location.href.split('#')[0] === arguments[0] && (arguments[1] || !window.isBefore)"
         for _ in range(600):
-            if self.script(there, address):
+            if self.script(there, address.split("#")[0], "#" in address and before == address.split("#")[0]):
                 return
             time.sleep(0.05)
 

@@ -77,6 +77,7 @@ def try_hands(window, double, walks):
     window.script("location.hash = '#move=3'")
     judge("another address", comes(window, 3), 3)
     for odd in "zoom=NaN", "zoom=-1", "move=x", "move=", "round=abc":
+        window.open("about:blank")
         window.open(f"{double.address}#{odd}")
         told = window.script("return [walk.view.run.state.at, isFinite(walk.camera.scale), isFinite(walk.camera.x)]")
         judge(f"an address with {odd}", told, [0, True, True])
