@@ -75,8 +75,11 @@ def try_narrow(page, live, window):
     window.resize(NARROW[0], 2 * NARROW[1] - window.script("return innerHeight"))
     page.judge("a window of this size", window.script("return [innerWidth, innerHeight]"), list(NARROW))
     live.runs(window, programs.TEXTS["sum.pcf"])
-    height = window.script("return document.getElementById('net').getBoundingClientRect().height")
-    page.judge("the net's height in a small window", (height >= 300, height), (True, height))
+    height, below = window.script("""
+      const { height, bottom } = document.getElementById("net").getBoundingClientRect();
+      return [height, document.querySelector("footer").getBoundingClientRect().top - bottom];""")
+    page.judge("the net has three fifths of a small window", (height >= 0.6 * NARROW[1], height), (True, height))
+    page.judge("and what is below hides nothing of it", (below >= -1, below), (True, below))
     seen = window.script("return ['own-text', 'own-said', 'told-say'].map(it => document.getElementById(it).getClientRects().length > 0)")
     page.judge("the box is put away, and what is said is there", seen, [False, True, True])
     page.judge("the program is there once, in its panel", program_seen(window), ["program"])
