@@ -101,7 +101,7 @@ def odd_readme(text):
     quoted = [re.sub(r"\s+", " ", it).strip() for it in re.findall(r"^```\n(.*?)^```$", text, re.M | re.S) if " → " in it]
     if len(quoted) != 1 or quoted[0] not in statement:
         found.append("the headline")
-    ran = call([os.path.join(TOP, "tools/believed")], cwd=TOP)[1].decode()
+    ran = call([os.path.join(TOP, "tools/believed")], 600, cwd=TOP)[1].decode()
     rows = [it.strip("| ").split(" | ") for it in ran.split("\n") if it.startswith("| ")]
     counts = [it[4] for it in rows if it[0].startswith(("`goi run FILE`", "`law_headline`"))] + [it[3] for it in rows if it[0] == "all"]
     told = re.search(r"rest on ([\d,]+) lines of definitions, .* on ([\d,]+), and all commands on ([\d,]+)\.", text)
