@@ -55,7 +55,7 @@ def try_without(page, program, folder):
     if lacks:
         print(f"skipped: the machine of the page, tried in Node, since {lacks[0]} isn't there")
     elif not live.is_made(build.sum_of_sources(build.kit_of())):
-        why = "out/goi.html isn't there or is of other sources; c/live-page makes it"
+        why = "no out/goi.html of these sources is there that was proved; c/live-page --proved makes it"
         print(f"skipped: the machine of the page, tried in Node, since {why}")
     else:
         try_in_node(page, program, folder)
