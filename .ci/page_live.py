@@ -7,8 +7,6 @@ LLVM module; `try_live` tries the page in a browser. Both take the script `.ci/p
 import base64
 import contextlib
 import hashlib
-import importlib.machinery
-import importlib.util
 import json
 import os
 import pathlib
@@ -24,6 +22,7 @@ import page_firefox as firefox
 import page_programs as programs
 import page_steps as steps
 import page_values as values
+from judging import load
 
 TOP = pathlib.Path(__file__).resolve().parent.parent
 PAGE = TOP / "out/goi.html"
@@ -31,18 +30,11 @@ PAGE = TOP / "out/goi.html"
 LEVELS = {"Chrome": 500, "Firefox": 300, "without": 150}
 
 
-def script(name, path):
-    loader = importlib.machinery.SourceFileLoader(name, str(TOP / path))
-    made = importlib.util.module_from_spec(importlib.util.spec_from_loader(name, loader))
-    loader.exec_module(made)
-    return made
-
-
 # Without a browser.
 
 
 def try_without(page, program, folder):
-    live, build = script("live_page", "c/live-page"), script("build", "c/build")
+    live, build = load(str(TOP / "c/live-page")), load(str(TOP / "c/build"))
     whole = live.page(b"\0asm\1\0\0\0", "no sources")
     try_whole(page, whole)
     page.judge("the page is the same when it is made again", live.page(b"\0asm\1\0\0\0", "no sources") == whole)
@@ -70,7 +62,7 @@ def made(page, *words):
 
 def try_whole(page, whole):
     """The page is that of a walk with parts put in; it names no address, and its policy allows its two scripts, its module and its worker."""
-    plain = script("walk", "tools/walk/build").page()
+    plain = load(str(TOP / "tools/walk/build")).page()
     left, other = iter(whole.split("\n")), ("Content-Security-Policy", "Open a walk")
     lacking = [line for line in plain.split("\n") if not any(it in line for it in other) and line not in left]
     page.judge("each line of the page of a walk is in the live page, in its order", lacking, [])
@@ -149,7 +141,7 @@ SLIPS = (
 
 def try_hints(page):
     """What is said of a usual slip, by tools/why and by the page."""
-    why = script("why", "tools/why")
+    why = load(str(TOP / "tools/why"))
     for fault, before, rest, says in SLIPS:
         found = why.hint_of(fault, before, rest)
         page.judge(f"why of {before!r} and {rest!r}", found.startswith(f"; {says}") if says else found, True if says else "")

@@ -2,14 +2,13 @@
 for VS Code and the bundle for a class are made of these.
 """
 
-import importlib.machinery
-import importlib.util
 import os
 import re
 import subprocess
 
 import manual
 import options
+from program import load
 
 TOP = os.path.dirname(os.path.dirname(os.path.realpath(__file__)))
 # The scripts that are commands, by their names in tools/.
@@ -47,10 +46,7 @@ def read(*path):
 
 def walk_page():
     """The page of a walk, without one, as tools/walk/build makes it."""
-    loader = importlib.machinery.SourceFileLoader("walk_build", os.path.join(TOP, "tools", "walk", "build"))
-    made = importlib.util.module_from_spec(importlib.util.spec_from_loader(loader.name, loader))
-    loader.exec_module(made)
-    return made.page().encode()
+    return load(os.path.join(TOP, "tools", "walk", "build")).page().encode()
 
 
 def tracked(*paths):
