@@ -80,7 +80,8 @@ def try_hands(window, double, walks):
         window.open("about:blank")
         window.open(f"{double.address}#{odd}")
         told = window.script("return [walk.view.run.state.at, isFinite(walk.camera.scale), isFinite(walk.camera.x)]")
-        judge(f"an address with {odd}", told, [0, True, True])
+        said = [it["message"] for it in window.log() if it["level"] == "SEVERE"]
+        judge(f"an address with {odd}", (told, said), ([0, True, True], []))
     window.open(double.address + "#move=3")
     x, y = ask(window, "middleOf", '.node[data-node="7"]')
     press(window, x, y)
