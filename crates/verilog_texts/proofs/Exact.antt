@@ -4,7 +4,7 @@ use Rattle.std.proofs.Common.{None, refl, sym, ap, ◌∙◌, subst, codes, inl,
 use Rattle.std.specs.Prelude.{◌&&◌, ◌||◌, nat_eq, decimal}
 use Rattle.std.proofs.lemmas.Bool.{and_parts, or_left, or_right, or_parts}
 use Rattle.std.specs.Str.Parse.{digits_value}
-use Rattle.std.proofs.lemmas.Fmt.{decimal_is_IsNumeral}
+use Rattle.std.proofs.lemmas.Fmt.{decimal_is_IsNumeral_wide}
 use Prim.Native.String.{String}
 use lib.Chars.{text_of, text_codes}
 use Rattle.verilog_tree.specs.Tree.{Size, count, named, more, less, Two, plus, minus, times, Way, left, right, Test, same, below, Logic}
@@ -39,7 +39,7 @@ pub record Stops (r : List ℕ) : Type 0 where
   pub ends : Ends r
   pub no_blank : starts (nat_eq 32) r ≡ false
 
-abbrev Fine : Bool → List ℕ → Type 0
+abbrev pub Fine : Bool → List ℕ → Type 0
 Fine true r = Ends r
 Fine false r = Stops r
 
@@ -47,16 +47,16 @@ fine_ends : (c : Bool) (r : List ℕ) → Fine c r → Ends r
 fine_ends true r f = f
 fine_ends false r f = f.ends
 
-ends_at : (c : ℕ) (r : List ℕ) → in_name c ≡ false → nat_eq 39 c ≡ false → nat_eq 91 c ≡ false → Ends (c ∷ r)
+pub ends_at : (c : ℕ) (r : List ℕ) → in_name c ≡ false → nat_eq 39 c ≡ false → nat_eq 91 c ≡ false → Ends (c ∷ r)
 ends_at c r h i j = record { no_name = h; no_quote = i; no_index = j }
 
-stops_at : (c : ℕ) (r : List ℕ) → in_name c ≡ false → nat_eq 39 c ≡ false → nat_eq 91 c ≡ false → nat_eq 32 c ≡ false → Stops (c ∷ r)
+pub stops_at : (c : ℕ) (r : List ℕ) → in_name c ≡ false → nat_eq 39 c ≡ false → nat_eq 91 c ≡ false → nat_eq 32 c ≡ false → Stops (c ∷ r)
 stops_at c r h i j k = record { ends = ends_at c r h i j; no_blank = k }
 
 stops_nothing : Stops []
 stops_nothing = record { ends = record { no_name = refl; no_quote = refl; no_index = refl }; no_blank = refl }
 
-no_digit : (r : List ℕ) → starts in_name r ≡ false → starts digit r ≡ false
+pub no_digit : (r : List ℕ) → starts in_name r ≡ false → starts digit r ≡ false
 no_digit [] h = refl
 no_digit (c ∷ r) h = (or_parts (letter c) (digit c) h).1
 
@@ -65,31 +65,31 @@ no_sign [] h = refl
 no_sign (c ∷ r) h = rw h refl
 
 -- a number is read
-number_front : (n : ℕ) (r : List ℕ) → n < 2 ^ 64 → starts digit r ≡ false → digits_value 10 (front digit (decimal n ++ r)) ≡ n
-number_front n r h e = ap (digits_value 10) (front_of digit (decimal n) r (digits_of n h).each e) ∙ (decimal_is_IsNumeral n h).1
+pub number_front : (n : ℕ) (r : List ℕ) → n < 10 ^ 64 → starts digit r ≡ false → digits_value 10 (front digit (decimal n ++ r)) ≡ n
+number_front n r h e = ap (digits_value 10) (front_of digit (decimal n) r (digits_of n h).each e) ∙ (decimal_is_IsNumeral_wide n h).1
 
-number_rest : (n : ℕ) (r : List ℕ) → n < 2 ^ 64 → starts digit r ≡ false → rest digit (decimal n ++ r) ≡ r
+pub number_rest : (n : ℕ) (r : List ℕ) → n < 10 ^ 64 → starts digit r ≡ false → rest digit (decimal n ++ r) ≡ r
 number_rest n r h e = rest_of digit (decimal n) r (digits_of n h).each e
 
-number_starts : (n : ℕ) (r : List ℕ) → n < 2 ^ 64 → starts digit (decimal n ++ r) ≡ true
+pub number_starts : (n : ℕ) (r : List ℕ) → n < 10 ^ 64 → starts digit (decimal n ++ r) ≡ true
 number_starts n r h = starts_more digit (decimal n) r (digits_of n h).some
 
 -- and a name
-name_front : (x : String) (r : List ℕ) → spelt (codes x) ≡ true → starts in_name r ≡ false →
+pub name_front : (x : String) (r : List ℕ) → spelt (codes x) ≡ true → starts in_name r ≡ false →
     text_of (front in_name (codes x ++ r)) ≡ x
 name_front x r h e = ap text_of (front_of in_name (codes x) r (spelt_all (codes x) h) e) ∙ text_codes x
 
-name_rest : (x : String) (r : List ℕ) → spelt (codes x) ≡ true → starts in_name r ≡ false → rest in_name (codes x ++ r) ≡ r
+pub name_rest : (x : String) (r : List ℕ) → spelt (codes x) ≡ true → starts in_name r ≡ false → rest in_name (codes x ++ r) ≡ r
 name_rest x r h e = rest_of in_name (codes x) r (spelt_all (codes x) h) e
 
-name_starts : (x : String) (r : List ℕ) → spelt (codes x) ≡ true → starts letter (codes x ++ r) ≡ true
+pub name_starts : (x : String) (r : List ℕ) → spelt (codes x) ≡ true → starts letter (codes x ++ r) ≡ true
 name_starts x r h = starts_more letter (codes x) r (spelt_starts (codes x) h)
 
 letter_primary : (cs : List ℕ) → starts letter cs ≡ true → starts primary cs ≡ true
 letter_primary [] e = cc
 letter_primary (c ∷ cs) e = or_left (letter c) (digit c || (nat_eq 123 c || nat_eq 40 c)) e
 
-name_primary : (x : String) (r : List ℕ) → spelt (codes x) ≡ true → starts primary (codes x ++ r) ≡ true
+pub name_primary : (x : String) (r : List ℕ) → spelt (codes x) ≡ true → starts primary (codes x ++ r) ≡ true
 name_primary x r s = letter_primary (codes x ++ r) (name_starts x r s)
 
 digit_primary : (cs : List ℕ) → starts digit cs ≡ true → starts primary cs ≡ true
@@ -124,13 +124,13 @@ select_kind a_clock e = cc
 select_kind a_memory e = cc
 
 -- how far the reader has to go
-abbrev size_depth : Size → ℕ
+abbrev pub size_depth : Size → ℕ
 size_depth (count n) = 1
 size_depth (named x) = 1
 size_depth (more a b) = suc (size_depth a + size_depth b)
 size_depth (less a b) = suc (size_depth a + size_depth b)
 
-abbrev depth : Expr → ℕ
+abbrev pub depth : Expr → ℕ
 depth (num n) = 2
 depth (sized w n) = 2
 depth (const x) = 2
@@ -150,7 +150,7 @@ depth (every a) = suc (suc (depth a))
 depth (pick c a b) = suc (suc (depth c + depth a + depth b))
 
 -- texts that are put together
-spread : (a s b z r : List ℕ) → (a ++ (s ++ (b ++ z))) ++ r ≡ a ++ (s ++ (b ++ (z ++ r)))
+pub spread : (a s b z r : List ℕ) → (a ++ (s ++ (b ++ z))) ++ r ≡ a ++ (s ++ (b ++ (z ++ r)))
 spread a s b z r =
     append_assoc a (s ++ (b ++ z)) r ∙ ap (λ t. a ++ t) (append_assoc s (b ++ z) r ∙ ap (λ t. s ++ t) (append_assoc b z r))
 
@@ -172,7 +172,7 @@ module _ (env : List Entry) (names : names_ok env ≡ true) where
       ∙ ap (λ o. go_on o (λ a r. more_size (read_size k) a r)) h
       ∙ ap (λ o. closed 41 (go_on o (λ b t. Some (less a b, t)))) i
 
-  sizes : (s : Size) (k : ℕ) (r : List ℕ) → size_depth s ≤ k → starts in_name r ≡ false → size_ok env s ≡ true → SmallSize s →
+  pub sizes : (s : Size) (k : ℕ) (r : List ℕ) → size_depth s ≤ k → starts in_name r ≡ false → size_ok env s ≡ true → SmallSize s →
       read_size k (size_text s ++ r) ≡ Some (s, r)
   sizes s zero r l f ok small = absurd (none s l)
     where
@@ -206,7 +206,7 @@ module _ (env : List Entry) (names : names_ok env ≡ true) where
       read false env (suc k) cs ≡ Some (e, r)
   top_of k e cs r s h f = rw (s, h, no_sign r f.no_blank) refl
 
-  atom : (c : Bool) (k : ℕ) (e : Expr) (cs r : List ℕ) → 2 ≤ k → starts primary cs ≡ true →
+  pub atom : (c : Bool) (k : ℕ) (e : Expr) (cs r : List ℕ) → 2 ≤ k → starts primary cs ≡ true →
       ((j : ℕ) → k ≤ suc j → read true env j cs ≡ Some (e, r)) → Fine c r → read c env k cs ≡ Some (e, r)
   atom true k e cs r l s h f = h k (omega arith)
   atom false zero e cs r l s h f = absurd (omega (arith, l))
@@ -221,7 +221,7 @@ module _ (env : List Entry) (names : names_ok env ≡ true) where
   wrap false k e body r l h f = h k r (omega arith) f
 
   -- a number
-  number_reads : (j n : ℕ) (r : List ℕ) → n < 2 ^ 64 → Ends r → read true env (suc j) (decimal n ++ r) ≡ Some (num n, r)
+  number_reads : (j n : ℕ) (r : List ℕ) → n < 10 ^ 64 → Ends r → read true env (suc j) (decimal n ++ r) ≡ Some (num n, r)
   number_reads j n r h f =
       let d = no_digit r f.no_name in
       rw (
@@ -232,7 +232,7 @@ module _ (env : List Entry) (names : names_ok env ≡ true) where
         behind_not 39 (100 ∷ []) r f.no_quote,
       ) refl
 
-  sized_reads : (j w n : ℕ) (r : List ℕ) → w < 2 ^ 64 → n < 2 ^ 64 → Ends r →
+  sized_reads : (j w n : ℕ) (r : List ℕ) → w < 10 ^ 64 → n < 10 ^ 64 → Ends r →
       read true env (suc j) (decimal w ++ (39 ∷ 100 ∷ (decimal n ++ r))) ≡ Some (sized w n, r)
   sized_reads j w n r g h f =
       let d = no_digit r f.no_name in
@@ -247,7 +247,7 @@ module _ (env : List Entry) (names : names_ok env ≡ true) where
       ) refl
 
   -- a name
-  name_reads : (j : ℕ) (x : String) (r : List ℕ) → spelt (codes x) ≡ true → Ends r →
+  pub name_reads : (j : ℕ) (x : String) (r : List ℕ) → spelt (codes x) ≡ true → Ends r →
       read true env (suc j) (codes x ++ r) ≡ Some (cond (of_kind parameter env x) (const x) (name x), r)
   name_reads j x r s f =
       rw (name_starts x r s, name_front x r s f.no_name, name_rest x r s f.no_name, behind_not 91 [] r f.no_index) refl
@@ -356,7 +356,7 @@ module _ (env : List Entry) (names : names_ok env ≡ true) where
   logic_ends one_of t = ends_at 32 _ refl refl refl
 
   -- an operand begins as one does
-  operand_starts : (e : Expr) (r : List ℕ) → expr_ok env e ≡ true → Small e → starts primary (expr_text true e ++ r) ≡ true
+  pub operand_starts : (e : Expr) (r : List ℕ) → expr_ok env e ≡ true → Small e → starts primary (expr_text true e ++ r) ≡ true
   operand_starts (num n) r ok small = digit_primary (decimal n ++ r) (number_starts n r small)
   operand_starts (sized w n) r ok small =
       digit_primary ((decimal w ++ (39 ∷ 100 ∷ decimal n)) ++ r)
@@ -388,7 +388,7 @@ module _ (env : List Entry) (names : names_ok env ≡ true) where
   operand_starts (pick c a b) r ok small = refl
 
   -- the reader reads an expression, behind which nothing goes on with it
-  abbrev Reads : Bool → Expr → Type 0
+  abbrev pub Reads : Bool → Expr → Type 0
   Reads c e = (k : ℕ) (r : List ℕ) → depth e ≤ k → Fine c r → read c env k (expr_text c e ++ r) ≡ Some (e, r)
 
   -- one operand behind a sign
@@ -520,7 +520,7 @@ module _ (env : List Entry) (names : names_ok env ≡ true) where
           ∙ ap (λ o. go_on o (λ c w. Some (pick d a c, w))) (ib j z (omega (arith, l, m)) t.ends))
 
   -- each expression is read
-  reads : (e : Expr) (c : Bool) → expr_ok env e ≡ true → Small e → Reads c e
+  pub reads : (e : Expr) (c : Bool) → expr_ok env e ≡ true → Small e → Reads c e
   reads (num n) c ok small k r l f =
       atom c k (num n) (decimal n ++ r) r l (digit_primary (decimal n ++ r) (number_starts n r small)) inner f
     where

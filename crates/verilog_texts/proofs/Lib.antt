@@ -4,5 +4,11 @@ pub mod Pieces
 pub mod Reader
 -- it reads what is printed
 pub mod Exact
+-- a reader of statements
+pub mod Blocks
+-- it reads what is printed
+pub mod Printed
+-- how statements are grouped changes no meaning
+pub mod Grouped
 -- the examples
 pub mod Examples

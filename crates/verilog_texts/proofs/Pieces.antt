@@ -3,7 +3,7 @@ use Rattle.std.proofs.Common.{sym, ◌≡◌, ℕ, ◌+◌, ◌/◌, ◌%◌, �
 use Rattle.std.proofs.Common.{◌∷◌, ◌++◌, Option, Some, None, refl, ap, ◌∙◌, subst, codes, arith}
 use Rattle.std.specs.Prelude.{not, ◌&&◌, ◌||◌, nat_eq, nat_le, decimal}
 use Rattle.std.proofs.lemmas.Bool.{and_parts, and_from, or_left, le-leb, lt-leb, leb-true, ne_eqb}
-use Rattle.std.proofs.lemmas.Fmt.{decimal_by_steps}
+use Rattle.std.proofs.lemmas.Fmt.{decimal_by_steps_wide}
 use Prim.Native.String.{String}
 use lib.Dec.{T}
 use lib.Text.{eqt, eqt→eq}
@@ -83,8 +83,8 @@ more_digits n ds h k = record {
   each = all_more digit ds (48 + n % 10) k.each (digit_is (n % 10) (omega arith));
 }
 
-pub digits_of : (n : ℕ) → n < 2 ^ 64 → Digits n (decimal n)
-digits_of n h = decimal_by_steps Digits one_digit more_digits n h
+pub digits_of : (n : ℕ) → n < 10 ^ 64 → Digits n (decimal n)
+digits_of n h = decimal_by_steps_wide Digits one_digit more_digits n h
 
 -- no digit is a letter
 no_letter : (c : ℕ) → c ≤ 57 → letter c ≡ false
@@ -118,19 +118,23 @@ spelt_all (c ∷ cs) e =
     and_from (in_name c) (all in_name cs) (or_left (letter c) (nat_le 48 c && nat_le c 57) p.0) (letters_all cs p.1)
 
 -- a name that is declared is an identifier
+pub declared_word : (p : Kind → Bool) (env : List Entry) (x : String) → names_ok env ≡ true → of_kind p env x ≡ true →
+    identifier x ≡ true
+declared_word p [] x h e = cc
+declared_word p (y ∷ env) x h e =
+    go (declared_word p env x (and_parts (identifier y.name) (names_ok env) h).1) (eqt y.name x) refl e
+  where
+    go : (of_kind p env x ≡ true → identifier x ≡ true) → (b : Bool) → eqt y.name x ≡ b →
+        chosen b (p y.kind) (of_kind p env x) ≡ true → identifier x ≡ true
+    go ih true q k =
+        subst (λ z. identifier z ≡ true) (eqt→eq y.name x (subst T (sym q) tt)) (and_parts (identifier y.name) (names_ok env) h).0
+    go ih false q k = ih k
+
+-- so it is spelt as one
 pub declared_name : (p : Kind → Bool) (env : List Entry) (x : String) → names_ok env ≡ true → of_kind p env x ≡ true →
     spelt (codes x) ≡ true
-declared_name p [] x h e = cc
-declared_name p (y ∷ env) x h e =
-    go (declared_name p env x (and_parts (identifier y.name) (names_ok env) h).1) (eqt y.name x) refl e
-  where
-    go : (of_kind p env x ≡ true → spelt (codes x) ≡ true) → (b : Bool) → eqt y.name x ≡ b →
-        chosen b (p y.kind) (of_kind p env x) ≡ true → spelt (codes x) ≡ true
-    go ih true q k =
-        let i = (and_parts (identifier y.name) (names_ok env) h).0 in
-        subst (λ z. spelt (codes z) ≡ true) (eqt→eq y.name x (subst T (sym q) tt))
-        (and_parts (spelt (codes y.name)) (not (member y.name keywords)) i).0
-    go ih false q k = ih k
+declared_name p env x h e =
+    (and_parts (spelt (codes x)) (not (member x keywords)) (declared_word p env x h e)).0
 
 -- a name is declared as one thing
 pub one_kind : (p q : Kind → Bool) → ((k : Kind) → p k ≡ true → q k ≡ false) → (env : List Entry) (x : String) →

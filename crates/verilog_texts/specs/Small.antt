@@ -11,14 +11,14 @@ names_ok [] = true
 names_ok (e ∷ env) = identifier e.name && names_ok env
 
 abbrev pub SmallSize : Size → Type 0
-SmallSize (count n) = n < 2 ^ 64
+SmallSize (count n) = n < 10 ^ 64
 SmallSize (named x) = Unit {0}
 SmallSize (more a b) = SmallSize a × SmallSize b
 SmallSize (less a b) = SmallSize a × SmallSize b
 
 abbrev pub Small : Expr → Type 0
-Small (num n) = n < 2 ^ 64
-Small (sized w n) = (w < 2 ^ 64) × (n < 2 ^ 64)
+Small (num n) = n < 10 ^ 64
+Small (sized w n) = (w < 10 ^ 64) × (n < 10 ^ 64)
 Small (const x) = Unit {0}
 Small (name x) = Unit {0}
 Small (bit x e) = Small e
