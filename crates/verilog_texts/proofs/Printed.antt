@@ -29,7 +29,7 @@ use Rattle.verilog_texts.proofs.Blocks.{read_cases, statement, read_labels, read
 abbrev pub visible : ℕ → Bool
 visible c = not (blank c || nat_eq 47 c)
 
-other_character : (p : ℕ → Bool) (d c : ℕ) → p d ≡ false → p c ≡ true → nat_eq d c ≡ false
+pub other_character : (p : ℕ → Bool) (d c : ℕ) → p d ≡ false → p c ≡ true → nat_eq d c ≡ false
 other_character p d c f t = ne_eqb d c (λ e. both_ways (p c) (subst (λ z. p z ≡ false) e f) t)
 
 seen : (c : ℕ) → primary c ≡ true → visible c ≡ true
@@ -37,7 +37,7 @@ seen c t =
     let a = other_character primary in
     rw (a 32 c refl t, a 10 c refl t, a 44 c refl t, a 59 c refl t, a 47 c refl t) refl
 
-seen_front : (cs : List ℕ) → starts primary cs ≡ true → starts visible cs ≡ true
+pub seen_front : (cs : List ℕ) → starts primary cs ≡ true → starts visible cs ≡ true
 seen_front [] e = cc
 seen_front (c ∷ cs) e = seen c e
 
@@ -184,7 +184,7 @@ module _ (env : List Entry) where
 
 module _ (env : List Entry) (names : names_ok env ≡ true) where
   -- an expression is read, where what stands behind it doesn't go on with it
-  expr_reads : (e : Expr) → Told env e → (k : ℕ) (r : List ℕ) → depth e ≤ k → Stops r → read false env k (expr_text false e ++ r) ≡ Some (e, r)
+  pub expr_reads : (e : Expr) → Told env e → (k : ℕ) (r : List ℕ) → depth e ≤ k → Stops r → read false env k (expr_text false e ++ r) ≡ Some (e, r)
   expr_reads e h k r l s = reads env names e false h.0 h.1 k r l s
 
   operand_seen : (e : Expr) (r : List ℕ) → Told env e → starts visible (expr_text true e ++ r) ≡ true
@@ -194,10 +194,10 @@ module _ (env : List Entry) (names : names_ok env ≡ true) where
   first_seen e r t p q = starts_more visible (expr_text true e ++ t) r (operand_seen e t (p, q))
 
   module _ (b : Bool) where
-    abbrev Goes : ℕ → List ℕ → Stmt → List ℕ → Type 0
+    abbrev pub Goes : ℕ → List ℕ → Stmt → List ℕ → Type 0
     Goes m r t z = (k : ℕ) → m ≤ k → read_block env b k r ≡ Some (t, z)
 
-    read_same : (k : ℕ) (r s : List ℕ) → next false r ≡ next false s → read_block env b k r ≡ read_block env b k s
+    pub read_same : (k : ℕ) (r s : List ℕ) → next false r ≡ next false s → read_block env b k r ≡ read_block env b k s
     read_same zero r s e = refl
     read_same (suc k) r s e =
         ap (λ cs. statement b (read false env k) (read_arms env b k) (read_block env b k) (text_of (front in_name cs)) (rest in_name cs)) e
@@ -262,7 +262,7 @@ module _ (env : List Entry) (names : names_ok env ≡ true) where
         index = expr_text false i ++ (93 ∷ (sign b ++ after))
 
     -- lines of statements: they are read, and then what stands behind them
-    abbrev Lines : ℕ → List ℕ → Stmt → Type 0
+    abbrev pub Lines : ℕ → List ℕ → Stmt → Type 0
     Lines c ls s = (m : ℕ) (r : List ℕ) (t : Stmt) (z : List ℕ) → Goes m r t z → Goes (c + m) (ls ++ r) (onto s t) z
 
     goes_text : (m n : ℕ) (r s : List ℕ) (t : Stmt) (z : List ℕ) → m ≤ n → r ≡ s → Goes m s t z → Goes n r t z
@@ -307,10 +307,10 @@ module _ (env : List Entry) (names : names_ok env ≡ true) where
         inside = ls ++ (indent n ++ (codes "end" ++ (codes " else begin" ++ (10 ∷ second))))
 
     -- arms are read, and what is left goes on as what stands behind them
-    abbrev ArmsGo : ℕ → List ℕ → Arms → List ℕ → Type 0
+    abbrev pub ArmsGo : ℕ → List ℕ → Arms → List ℕ → Type 0
     ArmsGo c ls a r = (w : List ℕ) × ((k : ℕ) → c ≤ k → read_arms env b k ls ≡ Some (a, w)) × (next false w ≡ next false r)
 
-    abbrev BlockGoes : ℕ → List ℕ → Stmt → List ℕ → Type 0
+    abbrev pub BlockGoes : ℕ → List ℕ → Stmt → List ℕ → Type 0
     BlockGoes c cs s r = (w : List ℕ) × ((k : ℕ) → c ≤ k → read_block env b k cs ≡ Some (s, w)) × (next false w ≡ next false r)
 
     arms_same : (k : ℕ) (r s : List ℕ) → next false r ≡ next false s → read_arms env b k r ≡ read_arms env b k s

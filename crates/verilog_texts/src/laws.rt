@@ -1,15 +1,25 @@
-//! What holds of the texts of expressions, and of some modules.
+//! What holds of the texts of expressions, of statements and of modules.
 
-ghost use Rattle.verilog_texts.specs.Laws.{OneExpression};
+ghost use Rattle.verilog_texts.specs.Laws.{OneExpression, OneBlock, OneMeaning};
 ghost use Rattle.verilog_texts.specs.Examples.{ExampleSameTexts};
 
-/// Where the names in them are declared, and each number has 64 bits, two expressions that print alike are one.
+/// Where the names in them are declared, and no number has more digits than its text, two expressions that print alike are one.
 pub fn law_expression()
     ensures { OneExpression }
 {}
 
+/// Two statements that print alike do the same in a block that settles, and in one of the clock.
+pub fn law_block()
+    ensures { OneBlock }
+{}
+
+/// Two well-formed modules that print alike, in which no width of a number has more digits than its text, have one name and the same edges.
+pub fn law_module()
+    ensures { OneMeaning }
+{}
+
 /// Trees that print alike and aren't one. Two modules of them have the same edges; a tree in which a number has more than 64 digits has
-/// others than the one that prints alike, and is no module.
+/// others than the one that prints alike, and is no module; and so have modules with a number whose width has more than 64 digits.
 pub fn law_example_same_texts()
     ensures { ExampleSameTexts }
 {}
