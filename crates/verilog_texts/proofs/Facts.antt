@@ -1,15 +1,15 @@
 -- What a module that is well formed has: names that are declared, and numbers that their text tells.
-use Rattle.std.proofs.Common.{◌≡◌, ℕ, zero, suc, ◌+◌, ◌^◌, ◌<◌, ◌≤◌, Bool, true, false, List, [], ◌∷◌, ◌++◌, refl, sym, ap, ◌∙◌, codes, arith}
-use Rattle.std.specs.Prelude.{not, ◌&&◌, ◌||◌, nat_lt, decimal}
-use Rattle.std.proofs.lemmas.Bool.{and_parts, and_from, ltb-true}
+use Rattle.std.proofs.Common.{◌≡◌, ℕ, suc, ◌+◌, ◌^◌, ◌<◌, Bool, true, List, [], ◌∷◌, refl, arith}
+use Rattle.std.specs.Prelude.{not, ◌&&◌}
+use Rattle.std.proofs.lemmas.Bool.{and_parts, ltb-true}
 use Prim.Native.String.{String}
 use Rattle.verilog_tree.specs.Tree.{Size, count, named, more, less, Expr, num, sized, const, name, bit, part, word, cat, inverse, two}
 use Rattle.verilog_tree.specs.Tree.{shift, test, logic, none, any, every, pick, Target, whole, word_at, Stmt, skip, put, seq, branch, cases}
 use Rattle.verilog_tree.specs.Tree.{Arms, otherwise, arm, Width, one, upto, wide, Item, note, gap, size, constant, input, output, reg}
 use Rattle.verilog_tree.specs.Tree.{memory, wire, settles, clocked}
-use Rattle.verilog_tree.specs.Meaning.{Scope, amount, scope}
+use Rattle.verilog_tree.specs.Meaning.{Scope, amount}
 use Rattle.verilog_tree.specs.Print.{bits_text, parts_text}
-use Rattle.verilog_tree.specs.WellFormed.{Entry, of_kind, register, is_memory, is_clock, member, identifier, one_line, said_ok, taken, new}
+use Rattle.verilog_tree.specs.WellFormed.{Entry, of_kind, register, is_memory, is_clock, member, identifier, said_ok, taken, new}
 use Rattle.verilog_tree.specs.WellFormed.{size_ok, width_ok, expr_ok, exprs_ok, sets_first, first_reads, apart, target_ok, stmt_ok, arms_ok}
 use Rattle.verilog_tree.specs.WellFormed.{targets, declared, driven, number_width, item_ok, items_ok, small, told, size_fits, limits_of}
 use Rattle.verilog_tree.specs.WellFormed.{Limits, width_fits, expr_fits, plain, labels_fit, target_fits, stmt_fits, arms_fit, item_fits}
@@ -107,7 +107,8 @@ module _ (P : Scope) (q : String → Bool) where
         (told_expr e a.0 b.0 c.0, told_labels d es a.1 b.1 c.1)
 
     mutual
-      pub told_stmt : (mine : List String) (s : Stmt) → stmt_ok env mine s ≡ true → stmt_fits L s ≡ true → stmt_told s ≡ true → ToldStmt env s
+      pub told_stmt : (mine : List String) (s : Stmt) → stmt_ok env mine s ≡ true → stmt_fits L s ≡ true → stmt_told s ≡ true →
+          ToldStmt env s
       told_stmt mine skip o f w = tt
       told_stmt mine (put t e) o f w =
           let a = and_parts (target_ok env mine t) (expr_ok env e) o in
@@ -203,7 +204,8 @@ module _ (P : Scope) (q : String → Bool) where
         let b = and_parts (width_fits L v) (expr_fits L e) f in
         (new_name x a.0, told_width v c.0 b.0, told_expr e c.1 b.1 w)
     told_item ds (settles s) o f w =
-        told_stmt (sets_first s) s (and_parts (apart (sets_first s) ds && first_reads (sets_first s) s) (stmt_ok env (sets_first s) s) o).1 f w
+        told_stmt (sets_first s) s (and_parts (apart (sets_first s) ds && first_reads (sets_first s) s) (stmt_ok env (sets_first s) s)
+        o).1 f w
     told_item ds (clocked s) o f w =
         told_stmt (targets s) s (and_parts (of_kind is_clock env "clk" && apart (targets s) ds) (stmt_ok env (targets s) s) o).1 f w
 

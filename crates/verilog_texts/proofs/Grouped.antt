@@ -2,11 +2,10 @@
 use Rattle.std.proofs.Common.{◌≡◌, ℕ, Bool, true, false, List, [], ◌∷◌, ◌++◌, refl, sym, ap, ◌∙◌}
 use Rattle.std.proofs.Math.Path.{fun_ext}
 use Prim.Native.String.{String}
-use lib.Text.{eqt}
 use Rattle.verilog_tree.specs.Tree.{Stmt, skip, put, seq, branch, cases, Arms, otherwise, arm, Item, note, gap, size, constant, input}
 use Rattle.verilog_tree.specs.Tree.{output, reg, memory, wire, settles, clocked, whole}
 use Rattle.verilog_tree.specs.Meaning.{Scope, Store, chosen, holds, bits, value, write, widest, widest_arm, labelled, run, run_arms, fire}
-use Rattle.verilog_tree.specs.Meaning.{fire_arms, width_of, named_here, param_in, width_in, words_in, scope, settled, clocked_in, edge}
+use Rattle.verilog_tree.specs.Meaning.{fire_arms, named_here, param_in, width_in, words_in, scope, settled, clocked_in, edge}
 use Rattle.verilog_tree.specs.WellFormed.{no_port, ports_first}
 use Rattle.verilog_texts.proofs.Blocks.{onto, tidy}
 
@@ -100,6 +99,7 @@ memories p [] x = refl
 memories p (memory w y k ∷ is) x = ap (named_here y x _) (memories p is x)
 memories p (i ∷ is) x = memories p is x
 
+-- and the same widths, where no item is a port
 body_widths : (p : String → ℕ) (is : List Item) → no_port is ≡ true → (x : String) → width_in p is x ≡ width_in p (body_of is) x
 body_widths p [] h x = refl
 body_widths p (note s ∷ is) h x = body_widths p is h x
@@ -117,7 +117,8 @@ body_widths p (wire w y e ∷ is) h x = ap (named_here y x _) (body_widths p is 
 later : (p : String → ℕ) (is : List Item) → no_port is ≡ true → (x : String) → width_in p is x ≡ width_in p (ports_of is ++ body_of is) x
 later p is h x = body_widths p is h x ∙ sym (ap (λ ps. width_in p (ps ++ body_of is) x) (no_ports is h))
 
-widths : (p : String → ℕ) (is : List Item) → ports_first is ≡ true → (x : String) → width_in p is x ≡ width_in p (ports_of is ++ body_of is) x
+widths : (p : String → ℕ) (is : List Item) → ports_first is ≡ true → (x : String) → width_in p is x ≡
+    width_in p (ports_of is ++ body_of is) x
 widths p (input w y ∷ is) h x = ap (named_here y x _) (widths p is h x)
 widths p (output w y ∷ is) h x = ap (named_here y x _) (widths p is h x)
 widths p is h x = later p is h x

@@ -1,5 +1,5 @@
 -- So what prints alike means one thing.
-use Rattle.std.proofs.Common.{◌≡◌, ℕ, ◌+◌, Bool, true, false, List, [], ◌∷◌, ◌++◌, Option, Some, None, refl, sym, ap, ◌∙◌, codes, arith}
+use Rattle.std.proofs.Common.{◌≡◌, ℕ, ◌+◌, Bool, true, false, List, [], ◌++◌, Option, Some, None, refl, sym, ap, ◌∙◌, codes, arith}
 use Rattle.std.specs.Prelude.{◌&&◌}
 use Rattle.std.proofs.lemmas.Bool.{and_parts}
 use Prim.Native.String.{String}
@@ -37,6 +37,7 @@ one_list env names b s t n g h e =
     let q = lines env names b t h n 1 (codes "end") skip [] (ending env names b 0 1 [] (omega arith) refl) k (omega arith) in
     same_got (sym p ∙ ap (λ c. read_block env b k (c ++ codes "end")) e ∙ q)
 
+-- so they do the same
 pub one_block : OneBlock
 one_block env names P q xs ys s t f g n =
     let a = and_parts (stmt_ok env xs s) (stmt_fits (limits_of P q) s && stmt_told s) f in
@@ -44,9 +45,10 @@ one_block env names P q xs ys s t f g n =
     let c = and_parts (stmt_fits (limits_of P q) s) (stmt_told s) a.1 in
     let d = and_parts (stmt_fits (limits_of P q) t) (stmt_told t) b.1 in
     let u = told_stmt P q env names xs s a.0 c.0 c.1 in
-    let v = told_stmt P q env names ys t b.0 d.0 d.1 in
-    ((λ e Q S. one_run Q s t (one_list env names true s t n u v e) S),
-    (λ e Q R S. one_fire Q R s t (one_list env names false s t n u v e) S))
+    let v = told_stmt P q env names ys t b.0 d.0 d.1 in (
+      (λ e Q S. one_run Q s t (one_list env names true s t n u v e) S),
+      (λ e Q R S. one_fire Q R s t (one_list env names false s t n u v e) S),
+    )
 
 -- a module's text by its parts
 module_is : (x : String) (is : List Item) → module_text x is ≡ codes "module " ++ (codes x ++ behind_name is)
@@ -71,14 +73,15 @@ one_text is js f g e S =
     let p = module_reads is f.0 f.1 k (omega arith) (omega arith) in
     let q = module_reads js g.0 g.1 k (omega arith) (omega arith) in
     let m : (ports_of is, body_of is) ≡ (ports_of js, body_of js) =
-        same_got (sym p ∙ ap (λ t. when (behind (codes " (") t) (read_module k)) e ∙ q) in
+    same_got (sym p ∙ ap (λ t. when (behind (codes " (") t) (read_module k)) e ∙ q) in
     one_edge is js f.0 g.0 (ap (λ (p : List Item × List Item). p.0) m) (ap (λ (p : List Item × List Item). p.1) m) S
 
 pub one_meaning : OneMeaning
 one_meaning is js f g a b x y i j e =
     let d : codes x ++ behind_name is ≡ codes y ++ behind_name js =
-        ap (λ t. left_of (behind (codes "module ") t)) (sym (module_is x is) ∙ e ∙ module_is y js) in
-    (sym (name_front x (behind_name is) (spelling x i) refl) ∙ ap (λ t. text_of (front in_name t)) d
-    ∙ name_front y (behind_name js) (spelling y j) refl,
-    one_text is js (told_module is f a) (told_module js g b)
-    (sym (name_rest x (behind_name is) (spelling x i) refl) ∙ ap (rest in_name) d ∙ name_rest y (behind_name js) (spelling y j) refl))
+    ap (λ t. left_of (behind (codes "module ") t)) (sym (module_is x is) ∙ e ∙ module_is y js) in (
+      sym (name_front x (behind_name is) (spelling x i) refl) ∙ ap (λ t. text_of (front in_name t)) d
+          ∙ name_front y (behind_name js) (spelling y j) refl,
+      one_text is js (told_module is f a) (told_module js g b)
+          (sym (name_rest x (behind_name is) (spelling x i) refl) ∙ ap (rest in_name) d ∙ name_rest y (behind_name js) (spelling y j) refl),
+    )

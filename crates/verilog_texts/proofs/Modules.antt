@@ -89,4 +89,5 @@ read_ports (suc k) cs =
 -- ports, and then the body
 abbrev pub read_module : ℕ → List ℕ → Got (List Item × List Item)
 read_module k cs =
-    go_on (read_ports k cs) (λ ps t. when (behind (codes ")") t) (λ u. go_on (read_body (all_declared [] ps) k u) (λ is z. Some ((ps, is), z))))
+    go_on (read_ports k cs) (λ ps t. when (behind (codes ")") t) (λ u. go_on (read_body (all_declared [] ps) k u)
+    (λ is z. Some ((ps, is), z))))

@@ -1,5 +1,5 @@
 -- The reader of statements reads what is printed.
-use Rattle.std.proofs.Common.{◌≡◌, ℕ, zero, suc, ◌+◌, ◌/◌, ◌%◌, ◌≤◌, Bool, true, false, cond, List, [], ◌∷◌, ◌++◌, Option, Some, None}
+use Rattle.std.proofs.Common.{◌≡◌, ℕ, zero, suc, ◌+◌, ◌/◌, ◌%◌, ◌≤◌, Bool, true, false, cond, List, [], ◌∷◌, ◌++◌, Some, None}
 use Rattle.std.proofs.Common.{refl, sym, ap, ◌∙◌, subst, codes, append_assoc, arith}
 use Rattle.std.specs.Prelude.{not, ◌&&◌, ◌||◌, nat_eq, decimal}
 use Rattle.std.proofs.lemmas.Bool.{and_parts, and_from, or_parts, not-true, both_ways, ne_eqb, lt-ltb, false_from_ne_true}
@@ -12,18 +12,17 @@ use Rattle.verilog_tree.specs.Tree.{Expr, num, sized, const, name, bit, part, wo
 use Rattle.verilog_tree.specs.Tree.{every, pick, Target, whole, word_at, Stmt, skip, put, seq, branch, cases, Said, word_said}
 use Rattle.verilog_tree.specs.Tree.{number_said, Arms, otherwise, arm}
 use Rattle.verilog_tree.specs.Print.{two_sign, shift_sign, test_sign, logic_sign}
-use Rattle.verilog_tree.specs.Print.{straight, expr_text, target_text, put_text, indent, more_labels, labels_text, parts_text, said_text}
-use Rattle.verilog_tree.specs.Print.{flat_text, arm_block, arm_text, default_text, is_skip, else_text, stmt_text, arms_text}
-use Rattle.verilog_tree.specs.WellFormed.{Entry, of_kind, parameter, vector, letter, spelt, keywords, member, identifier, one_line, said_ok}
+use Rattle.verilog_tree.specs.Print.{straight, expr_text, put_text, indent, more_labels, parts_text, said_text}
+use Rattle.verilog_tree.specs.Print.{flat_text, arm_block, is_skip, else_text, stmt_text, arms_text}
+use Rattle.verilog_tree.specs.WellFormed.{Entry, of_kind, parameter, vector, spelt, keywords, member, identifier, one_line, said_ok}
 use Rattle.verilog_tree.specs.WellFormed.{expr_ok}
 use Rattle.verilog_texts.specs.Small.{names_ok, Small}
-use Rattle.verilog_texts.proofs.Pieces.{front, rest, starts, behind, digit, in_name, starts_more, declared_word, declared_name}
-use Rattle.verilog_texts.proofs.Reader.{Got, go_on, when, closed, primary, read}
-use Rattle.verilog_texts.proofs.Exact.{Ends, Stops, ends_at, stops_at, name_front, name_rest, name_primary, depth, Fine, spread, atom}
+use Rattle.verilog_texts.proofs.Pieces.{front, rest, starts, behind, in_name, starts_more, declared_word}
+use Rattle.verilog_texts.proofs.Reader.{primary, read}
+use Rattle.verilog_texts.proofs.Exact.{Stops, ends_at, stops_at, name_front, name_rest, name_primary, depth, atom}
 use Rattle.verilog_texts.proofs.Exact.{name_reads, operand_starts, reads}
-use Rattle.verilog_texts.proofs.Blocks as blocks
-use Rattle.verilog_texts.proofs.Blocks.{onto, tidy, blank, next, sign, is_default, read_target, read_put, read_else, read_branch}
-use Rattle.verilog_texts.proofs.Blocks.{read_cases, statement, read_labels, read_default, read_labelled, read_arm, read_block, read_arms}
+use Rattle.verilog_texts.proofs.Blocks.{onto, tidy, blank, next, sign, is_default}
+use Rattle.verilog_texts.proofs.Blocks.{statement, read_labels, read_arm, read_block, read_arms}
 
 -- what a word begins with
 abbrev pub visible : ℕ → Bool
@@ -66,6 +65,7 @@ glyph_line : (c : ℕ) → not (nat_eq (digit_glyph false (c % 10)) 10 || nat_eq
 glyph_line c =
     rw (lt-ltb (c % 10) 10 (omega arith)) (digit_line (48 + c % 10) (omega arith))
 
+-- no line ends in digits
 digits_line : (k n : ℕ) (ds : List ℕ) → one_line ds ≡ true → one_line (digits_onto k 10 false n ds) ≡ true
 digits_line zero n ds h = h
 digits_line (suc k) n ds h =
@@ -184,7 +184,8 @@ module _ (env : List Entry) where
 
 module _ (env : List Entry) (names : names_ok env ≡ true) where
   -- an expression is read, where what stands behind it doesn't go on with it
-  pub expr_reads : (e : Expr) → Told env e → (k : ℕ) (r : List ℕ) → depth e ≤ k → Stops r → read false env k (expr_text false e ++ r) ≡ Some (e, r)
+  pub expr_reads : (e : Expr) → Told env e → (k : ℕ) (r : List ℕ) → depth e ≤ k → Stops r → read false env k (expr_text false e ++ r) ≡
+      Some (e, r)
   expr_reads e h k r l s = reads env names e false h.0 h.1 k r l s
 
   operand_seen : (e : Expr) (r : List ℕ) → Told env e → starts visible (expr_text true e ++ r) ≡ true
@@ -225,7 +226,8 @@ module _ (env : List Entry) (names : names_ok env ≡ true) where
         Goes (suc (depth e + m)) (codes x ++ (sign b ++ (expr_text false e ++ (59 ∷ r)))) (seq (put (whole x) e) s) z
     put_whole x e m r s z i h g zero l = absurd (omega (arith, l))
     put_whole x e m r s z i h g (suc k) l =
-        by_word k x (codes x ++ (sign b ++ after)) (sign b ++ after) (spelling x i) (sign_ends b after) (word_next x (sign b ++ after) (spelling x i))
+        by_word k x (codes x ++ (sign b ++ after)) (sign b ++ after) (spelling x i) (sign_ends b after)
+        (word_next x (sign b ++ after) (spelling x i))
         ∙ rw (
           other_word x "end" i refl,
           other_word x "if" i refl,
@@ -275,10 +277,12 @@ module _ (env : List Entry) (names : names_ok env ≡ true) where
         (seq (branch e (onto s skip) skip) u) z
     branch_one n c e ls s m r u z h i g zero l = absurd (omega (arith, l))
     branch_one n c e ls s m r u z h i g (suc k) l =
-        by_word k "if" (codes "if (" ++ (expr_text false e ++ (codes ") begin" ++ (10 ∷ inside)))) (codes " (" ++ (expr_text false e ++ (codes ") begin" ++ (10 ∷ inside)))) refl refl refl
+        by_word k "if" (codes "if (" ++ (expr_text false e ++ (codes ") begin" ++ (10 ∷ inside))))
+        (codes " (" ++ (expr_text false e ++ (codes ") begin" ++ (10 ∷ inside)))) refl refl refl
         ∙ rw (
           expr_reads e h k (codes ") begin" ++ (10 ∷ inside)) (omega (arith, l)) (stops_at 41 _ refl refl refl refl),
-          goes_next (c + 1) (10 ∷ inside) inside (onto s skip) (10 ∷ r) refl (i 1 (indent n ++ (codes "end" ++ (10 ∷ r))) skip (10 ∷ r) (ending n 1 (10 ∷ r) (omega arith) refl)) k (omega (arith, l)),
+          goes_next (c + 1) (10 ∷ inside) inside (onto s skip) (10 ∷ r) refl (i 1 (indent n ++ (codes "end" ++ (10 ∷ r))) skip (10 ∷ r)
+          (ending n 1 (10 ∷ r) (omega arith) refl)) k (omega (arith, l)),
           goes_next m (10 ∷ r) r u z refl g k (omega (arith, l)),
         ) refl
       where
@@ -292,11 +296,15 @@ module _ (env : List Entry) (names : names_ok env ≡ true) where
         (lt ++ (indent n ++ (codes "end\n" ++ r))))))))) (seq (branch e (onto s skip) (onto t skip)) u) z
     branch_two n c d e ls s lt t m r u z h i j g zero l = absurd (omega (arith, l))
     branch_two n c d e ls s lt t m r u z h i j g (suc k) l =
-        by_word k "if" (codes "if (" ++ (expr_text false e ++ (codes ") begin" ++ (10 ∷ inside)))) (codes " (" ++ (expr_text false e ++ (codes ") begin" ++ (10 ∷ inside)))) refl refl refl
+        by_word k "if" (codes "if (" ++ (expr_text false e ++ (codes ") begin" ++ (10 ∷ inside))))
+        (codes " (" ++ (expr_text false e ++ (codes ") begin" ++ (10 ∷ inside)))) refl refl refl
         ∙ rw (
           expr_reads e h k (codes ") begin" ++ (10 ∷ inside)) (omega (arith, l)) (stops_at 41 _ refl refl refl refl),
-          goes_next (c + 1) (10 ∷ inside) inside (onto s skip) (codes " else begin" ++ (10 ∷ second)) refl (i 1 (indent n ++ (codes "end" ++ (codes " else begin" ++ (10 ∷ second)))) skip (codes " else begin" ++ (10 ∷ second)) (ending n 1 (codes " else begin" ++ (10 ∷ second)) (omega arith) refl)) k (omega (arith, l)),
-          goes_next (d + 1) (10 ∷ second) second (onto t skip) (10 ∷ r) refl (j 1 (indent n ++ (codes "end" ++ (10 ∷ r))) skip (10 ∷ r) (ending n 1 (10 ∷ r) (omega arith) refl)) k (omega (arith, l)),
+          goes_next (c + 1) (10 ∷ inside) inside (onto s skip) (codes " else begin" ++ (10 ∷ second)) refl
+          (i 1 (indent n ++ (codes "end" ++ (codes " else begin" ++ (10 ∷ second)))) skip (codes " else begin" ++ (10 ∷ second))
+          (ending n 1 (codes " else begin" ++ (10 ∷ second)) (omega arith) refl)) k (omega (arith, l)),
+          goes_next (d + 1) (10 ∷ second) second (onto t skip) (10 ∷ r) refl (j 1 (indent n ++ (codes "end" ++ (10 ∷ r))) skip (10 ∷ r)
+          (ending n 1 (10 ∷ r) (omega arith) refl)) k (omega (arith, l)),
           goes_next m (10 ∷ r) r u z refl g k (omega (arith, l)),
         ) refl
       where
@@ -324,7 +332,8 @@ module _ (env : List Entry) (names : names_ok env ≡ true) where
         (codes "case (" ++ (expr_text false e ++ (codes ")\n" ++ (ls ++ (indent n ++ (codes "endcase\n" ++ r)))))) (seq (cases e a) u) z
     case_goes n c e ls a m r u z h i g zero l = absurd (omega (arith, l))
     case_goes n c e ls a m r u z h i g (suc k) l =
-        by_word k "case" (codes "case (" ++ (expr_text false e ++ (41 ∷ 10 ∷ inside))) (codes " (" ++ (expr_text false e ++ (41 ∷ 10 ∷ inside))) refl refl refl
+        by_word k "case" (codes "case (" ++ (expr_text false e ++ (41 ∷ 10 ∷ inside)))
+        (codes " (" ++ (expr_text false e ++ (41 ∷ 10 ∷ inside))) refl refl refl
         ∙ rw (
           expr_reads e h k (41 ∷ 10 ∷ inside) (omega (arith, l)) (stops_at 41 (10 ∷ inside) refl refl refl refl),
           arms_same k (10 ∷ inside) inside refl ∙ got.1 k (omega (arith, l)),
@@ -356,11 +365,16 @@ module _ (env : List Entry) (names : names_ok env ≡ true) where
     expr_seen (none a) r h = refl
     expr_seen (any a) r h = refl
     expr_seen (every a) r h = refl
-    expr_seen (two o a c) r h = first_seen a r (two_sign o ++ (expr_text true c ++ [])) (and_parts (expr_ok env a) (expr_ok env c) h.0).0 h.1.0
-    expr_seen (shift o a c) r h = first_seen a r (shift_sign o ++ (expr_text true c ++ [])) (and_parts (expr_ok env a) (expr_ok env c) h.0).0 h.1.0
-    expr_seen (test o a c) r h = first_seen a r (test_sign o ++ (expr_text true c ++ [])) (and_parts (expr_ok env a) (expr_ok env c) h.0).0 h.1.0
-    expr_seen (logic o a c) r h = first_seen a r (logic_sign o ++ (expr_text true c ++ [])) (and_parts (expr_ok env a) (expr_ok env c) h.0).0 h.1.0
-    expr_seen (pick d a c) r h = first_seen d r (codes " ? " ++ (expr_text true a ++ (codes " : " ++ (expr_text true c ++ [])))) (and_parts (expr_ok env d) (expr_ok env a && expr_ok env c) h.0).0 h.1.0
+    expr_seen (two o a c) r h = first_seen a r (two_sign o ++ (expr_text true c ++ [])) (and_parts (expr_ok env a) (expr_ok env c) h.0).0
+        h.1.0
+    expr_seen (shift o a c) r h = first_seen a r (shift_sign o ++ (expr_text true c ++ [])) (and_parts (expr_ok env a) (expr_ok env c)
+        h.0).0 h.1.0
+    expr_seen (test o a c) r h = first_seen a r (test_sign o ++ (expr_text true c ++ [])) (and_parts (expr_ok env a) (expr_ok env c)
+        h.0).0 h.1.0
+    expr_seen (logic o a c) r h = first_seen a r (logic_sign o ++ (expr_text true c ++ [])) (and_parts (expr_ok env a) (expr_ok env c)
+        h.0).0 h.1.0
+    expr_seen (pick d a c) r h = first_seen d r (codes " ? " ++ (expr_text true a ++ (codes " : " ++ (expr_text true c ++ []))))
+        (and_parts (expr_ok env d) (expr_ok env a && expr_ok env c) h.0).0 h.1.0
 
     -- no label is `default`
     no_default : (e : Expr) → Told env e → is_default e ≡ false
@@ -383,11 +397,14 @@ module _ (env : List Entry) (names : names_ok env ≡ true) where
     no_default (pick d a c) h = refl
 
     default_reads : (k : ℕ) (r : List ℕ) → 2 ≤ k →
-        read false env k (codes "default" ++ (58 ∷ r)) ≡ Some (cond (of_kind parameter env "default") (const "default") (name "default"), 58 ∷ r)
+        read false env k (codes "default" ++ (58 ∷ r)) ≡ Some (cond (of_kind parameter env "default") (const "default") (name "default"),
+        58 ∷ r)
     default_reads k r l =
-        atom env names false k _ (codes "default" ++ (58 ∷ r)) (58 ∷ r) l (name_primary "default" (58 ∷ r) refl) inner (stops_at 58 r refl refl refl refl)
+        atom env names false k _ (codes "default" ++ (58 ∷ r)) (58 ∷ r) l (name_primary "default" (58 ∷ r) refl) inner
+        (stops_at 58 r refl refl refl refl)
       where
-        inner : (j : ℕ) → k ≤ suc j → read true env j (codes "default" ++ (58 ∷ r)) ≡ Some (cond (of_kind parameter env "default") (const "default") (name "default"), 58 ∷ r)
+        inner : (j : ℕ) → k ≤ suc j → read true env j (codes "default" ++ (58 ∷ r)) ≡
+            Some (cond (of_kind parameter env "default") (const "default") (name "default"), 58 ∷ r)
         inner zero m = absurd (omega (arith, l, m))
         inner (suc j) m = name_reads env names j "default" (58 ∷ r) refl (ends_at 58 r refl refl refl)
 
@@ -407,7 +424,8 @@ module _ (env : List Entry) (names : names_ok env ≡ true) where
           labels_read es h.1 j k r (omega (arith, l)) (omega (arith, m)),
         ) refl
       where
-        grouped : (codes ", " ++ (expr_text false e ++ more_labels es)) ++ (58 ∷ r) ≡ codes ", " ++ (expr_text false e ++ (more_labels es ++ (58 ∷ r)))
+        grouped : (codes ", " ++ (expr_text false e ++ more_labels es)) ++ (58 ∷ r) ≡ codes ", " ++
+            (expr_text false e ++ (more_labels es ++ (58 ∷ r)))
         grouped = simp append_assoc
 
     -- what an arm has behind its labels
@@ -415,19 +433,29 @@ module _ (env : List Entry) (names : names_ok env ≡ true) where
     tail_text true f n c l r = 32 ∷ (f ++ (codes "end" ++ (said_text c ++ r)))
     tail_text false f n c l r = said_text c ++ (l ++ (indent n ++ (codes "end" ++ (10 ∷ r))))
 
-    tail_is : (g : Bool) (f : List ℕ) (n : ℕ) (c : List Said) (l r : List ℕ) → arm_block g f n c l ++ r ≡ codes ": begin" ++ tail_text g f n c l r
+    tail_is : (g : Bool) (f : List ℕ) (n : ℕ) (c : List Said) (l r : List ℕ) → arm_block g f n c l ++ r ≡ codes ": begin" ++
+        tail_text g f n c l r
     tail_is true f n c l r = simp append_assoc
     tail_is false f n c l r = simp append_assoc
 
     tail_goes : (g : Bool) (f : List ℕ) (n : ℕ) (c : List Said) (l r : List ℕ) (d : ℕ) (s : Stmt) → said_ok c ≡ true →
         (g ≡ true → Lines d f s) → Lines d l s → BlockGoes (d + 1) (tail_text g f n c l r) (onto s skip) r
-    tail_goes true f n c l r d s h i j =
-        (said_text c ++ r, (λ k m. goes_next (d + 1) (32 ∷ (f ++ (codes "end" ++ (said_text c ++ r)))) (f ++ (codes "end" ++ (said_text c ++ r))) (onto s skip) (said_text c ++ r) refl
-        (i refl 1 (codes "end" ++ (said_text c ++ r)) skip (said_text c ++ r) (ending 0 1 (said_text c ++ r) (omega arith) (said_ends c r))) k m), said_next c r h)
-    tail_goes false f n c l r d s h i j =
-        (10 ∷ r, (λ k m. goes_next (d + 1) (said_text c ++ (l ++ (indent n ++ (codes "end" ++ (10 ∷ r))))) (l ++ (indent n ++ (codes "end" ++ (10 ∷ r)))) (onto s skip) (10 ∷ r)
-        (said_next c (l ++ (indent n ++ (codes "end" ++ (10 ∷ r)))) h)
-        (j 1 (indent n ++ (codes "end" ++ (10 ∷ r))) skip (10 ∷ r) (ending n 1 (10 ∷ r) (omega arith) refl)) k m), refl)
+    tail_goes true f n c l r d s h i j = (
+      said_text c ++ r,
+      (λ k m. goes_next (d + 1) (32 ∷ (f ++ (codes "end" ++ (said_text c ++ r)))) (f ++ (codes "end" ++ (said_text c ++ r))) (onto s skip)
+      (said_text c ++ r) refl
+          (i refl 1 (codes "end" ++ (said_text c ++ r)) skip (said_text c ++ r) (ending 0 1 (said_text c ++ r) (omega arith)
+          (said_ends c r))) k m),
+      said_next c r h,
+    )
+    tail_goes false f n c l r d s h i j = (
+      10 ∷ r,
+      (λ k m. goes_next (d + 1) (said_text c ++ (l ++ (indent n ++ (codes "end" ++ (10 ∷ r)))))
+      (l ++ (indent n ++ (codes "end" ++ (10 ∷ r)))) (onto s skip) (10 ∷ r)
+          (said_next c (l ++ (indent n ++ (codes "end" ++ (10 ∷ r)))) h)
+          (j 1 (indent n ++ (codes "end" ++ (10 ∷ r))) skip (10 ∷ r) (ending n 1 (10 ∷ r) (omega arith) refl)) k m),
+      refl,
+    )
 
     -- the last arm
     last_goes : (g : Bool) (f : List ℕ) (n : ℕ) (l r : List ℕ) (d : ℕ) (s : Stmt) → (g ≡ true → Lines d f s) → Lines d l s →
@@ -440,21 +468,25 @@ module _ (env : List Entry) (names : names_ok env ≡ true) where
         body : BlockGoes (d + 1) tail (onto s skip) r
         body = tail_goes g f n [] l r d s refl i j
 
-        grouped : (indent n ++ (codes "default" ++ arm_block g f n [] l)) ++ r ≡ indent n ++ (codes "default" ++ (arm_block g f n [] l ++ r))
+        grouped : (indent n ++ (codes "default" ++ arm_block g f n [] l)) ++ r ≡ indent n ++
+            (codes "default" ++ (arm_block g f n [] l ++ r))
         grouped = simp append_assoc
 
-        whole_text : (indent n ++ (codes "default" ++ arm_block g f n [] l)) ++ r ≡ indent n ++ (codes "default" ++ (codes ": begin" ++ tail))
+        whole_text : (indent n ++ (codes "default" ++ arm_block g f n [] l)) ++ r ≡ indent n ++
+            (codes "default" ++ (codes ": begin" ++ tail))
         whole_text = grouped ∙ ap (λ t. indent n ++ (codes "default" ++ t)) (tail_is g f n [] l r)
 
         is_one : (c : Bool) → is_default (cond c (const "default") (name "default")) ≡ true
         is_one true = refl
         is_one false = refl
 
-        goes : (k : ℕ) → suc (d + 2) ≤ k → read_arms env b k ((indent n ++ (codes "default" ++ arm_block g f n [] l)) ++ r) ≡ Some (otherwise (onto s skip), body.0)
+        goes : (k : ℕ) → suc (d + 2) ≤ k → read_arms env b k ((indent n ++ (codes "default" ++ arm_block g f n [] l)) ++ r) ≡
+            Some (otherwise (onto s skip), body.0)
         goes zero m = absurd (omega (arith, m))
         goes (suc k) m =
             ap (read_arms env b (suc k)) whole_text
-            ∙ arms_same (suc k) (indent n ++ (codes "default" ++ (codes ": begin" ++ tail))) (codes "default" ++ (codes ": begin" ++ tail)) (next_indent n _)
+            ∙ arms_same (suc k) (indent n ++ (codes "default" ++ (codes ": begin" ++ tail))) (codes "default" ++
+            (codes ": begin" ++ tail)) (next_indent n _)
             ∙ rw (
               default_reads k (codes " begin" ++ tail) (omega (arith, m)),
               is_one (of_kind parameter env "default"),
@@ -462,9 +494,11 @@ module _ (env : List Entry) (names : names_ok env ≡ true) where
             ) refl
 
     -- another arm
-    arm_goes : (g : Bool) (f : List ℕ) (n : ℕ) (e : Expr) (es : List Expr) (c : List Said) (l more r : List ℕ) (d i : ℕ) (s : Stmt) (a : Arms) → Told env e → ToldLabels env es →
+    arm_goes : (g : Bool) (f : List ℕ) (n : ℕ) (e : Expr) (es : List Expr) (c : List Said) (l more r : List ℕ) (d i : ℕ) (s : Stmt)
+        (a : Arms) → Told env e → ToldLabels env es →
         said_ok c ≡ true → (g ≡ true → Lines d f s) → Lines d l s → ArmsGo i (more ++ r) a r →
-        ArmsGo (suc (depth e + labels_cost es + suc d + i)) (((indent n ++ ((expr_text false e ++ more_labels es) ++ arm_block g f n c l)) ++ more) ++ r) (arm (e ∷ es) (onto s skip) [] a) r
+        ArmsGo (suc (depth e + labels_cost es + suc d + i))
+        (((indent n ++ ((expr_text false e ++ more_labels es) ++ arm_block g f n c l)) ++ more) ++ r) (arm (e ∷ es) (onto s skip) [] a) r
     arm_goes g f n e es c l more r d i s a h q v x y others = (others.0, goes, others.2)
       where
         tail : List ℕ
@@ -480,11 +514,13 @@ module _ (env : List Entry) (names : names_ok env ≡ true) where
             indent n ++ (expr_text false e ++ (more_labels es ++ (arm_block g f n c l ++ (more ++ r))))
         grouped = simp append_assoc
 
-        whole_text : ((indent n ++ ((expr_text false e ++ more_labels es) ++ arm_block g f n c l)) ++ more) ++ r ≡ indent n ++ (expr_text false e ++ begin)
+        whole_text : ((indent n ++ ((expr_text false e ++ more_labels es) ++ arm_block g f n c l)) ++ more) ++ r ≡ indent n ++
+            (expr_text false e ++ begin)
         whole_text = grouped ∙ ap (λ t. indent n ++ (expr_text false e ++ (more_labels es ++ t))) (tail_is g f n c l (more ++ r))
 
         goes : (k : ℕ) → suc (depth e + labels_cost es + suc d + i) ≤ k →
-            read_arms env b k (((indent n ++ ((expr_text false e ++ more_labels es) ++ arm_block g f n c l)) ++ more) ++ r) ≡ Some (arm (e ∷ es) (onto s skip) [] a, others.0)
+            read_arms env b k (((indent n ++ ((expr_text false e ++ more_labels es) ++ arm_block g f n c l)) ++ more) ++ r) ≡
+            Some (arm (e ∷ es) (onto s skip) [] a, others.0)
         goes zero m = absurd (omega (arith, m))
         goes (suc k) m =
             ap (read_arms env b (suc k)) whole_text
@@ -502,7 +538,8 @@ module _ (env : List Entry) (names : names_ok env ≡ true) where
     -- all statements are read
     either_branch : (n c d : ℕ) (e : Expr) (ls : List ℕ) (s : Stmt) (lt : List ℕ) (t : Stmt) → Told env e → Lines c ls s → Lines d lt t →
         Lines (suc (depth e + suc c + suc d))
-        (indent n ++ (codes "if (" ++ (expr_text false e ++ (codes ") begin\n" ++ (ls ++ (indent n ++ else_text (is_skip t) n lt)))))) (branch e s t)
+        (indent n ++ (codes "if (" ++ (expr_text false e ++ (codes ") begin\n" ++ (ls ++ (indent n ++ else_text (is_skip t) n lt))))))
+        (branch e s t)
     either_branch n c d e ls s lt skip h i j m r u z g =
         goes_text (suc (depth e + suc c + m)) (suc (depth e + suc c + suc d) + m) _
         (indent n ++ (codes "if (" ++ (expr_text false e ++ (codes ") begin\n" ++ (ls ++ (indent n ++ (codes "end\n" ++ r)))))))
@@ -510,14 +547,16 @@ module _ (env : List Entry) (names : names_ok env ≡ true) where
         (goes_next (suc (depth e + suc c + m)) _ _ _ z (next_indent n _) (branch_one n c e ls s m r u z h i g))
     either_branch n c d e ls s lt t h i j m r u z g =
         goes_text (suc (depth e + suc c + suc d + m)) (suc (depth e + suc c + suc d) + m) _
-        (indent n ++ (codes "if (" ++ (expr_text false e ++ (codes ") begin\n" ++ (ls ++ (indent n ++ (codes "end else begin\n" ++ (lt ++ (indent n ++ (codes "end\n" ++ r))))))))))
+        (indent n ++ (codes "if (" ++ (expr_text false e ++
+        (codes ") begin\n" ++ (ls ++ (indent n ++ (codes "end else begin\n" ++ (lt ++ (indent n ++ (codes "end\n" ++ r))))))))))
         _ z (omega arith) (simp append_assoc)
         (goes_next (suc (depth e + suc c + suc d + m)) _ _ _ z (next_indent n _) (branch_two n c d e ls s lt t m r u z h i j g))
 
     put_goes : (t : Target) (e : Expr) (m : ℕ) (r : List ℕ) (s : Stmt) (z : List ℕ) → ToldTarget env t → Told env e → Goes m r s z →
         Goes (suc (target_cost t + depth e) + m) (put_text (sign b) t e ++ r) (seq (put t e) s) z
     put_goes (whole x) e m r s z i h g =
-        goes_text (suc (depth e + m)) (suc (0 + depth e) + m) _ (codes x ++ (sign b ++ (expr_text false e ++ (59 ∷ r)))) _ z (omega arith) (simp append_assoc)
+        goes_text (suc (depth e + m)) (suc (0 + depth e) + m) _ (codes x ++ (sign b ++ (expr_text false e ++ (59 ∷ r)))) _ z (omega arith)
+        (simp append_assoc)
         (put_whole x e m r s z i h g)
     put_goes (word_at x i) e m r s z p h g =
         goes_text (suc (depth i + depth e + m)) (suc (depth i + depth e) + m) _
@@ -543,12 +582,15 @@ module _ (env : List Entry) (names : names_ok env ≡ true) where
       pub lines : (s : Stmt) → ToldStmt env s → (n : ℕ) → Lines (cost s) (stmt_text (sign b) n s) s
       lines skip h n m r t z g = goes_text m (0 + m) r r t z (omega arith) refl g
       lines (put p e) h n m r t z g =
-          goes_text (suc (target_cost p + depth e) + m) (suc (target_cost p + depth e) + m) _ (indent n ++ (put_text (sign b) p e ++ (10 ∷ r))) _ z (omega arith)
-          (append_assoc (indent n) (put_text (sign b) p e ++ (10 ∷ [])) r ∙ ap (λ cs. indent n ++ cs) (append_assoc (put_text (sign b) p e) (10 ∷ []) r))
+          goes_text (suc (target_cost p + depth e) + m) (suc (target_cost p + depth e) + m) _
+          (indent n ++ (put_text (sign b) p e ++ (10 ∷ r))) _ z (omega arith)
+          (append_assoc (indent n) (put_text (sign b) p e ++ (10 ∷ [])) r
+          ∙ ap (λ cs. indent n ++ cs) (append_assoc (put_text (sign b) p e) (10 ∷ []) r))
           (goes_next (suc (target_cost p + depth e) + m) _ _ _ z (next_indent n _)
           (put_goes p e m (10 ∷ r) t z h.0 h.1 (goes_next m (10 ∷ r) r t z refl g)))
       lines (seq s u) h n m r t z g =
-          goes_text (cost s + (cost u + m)) (cost s + cost u + m) _ (stmt_text (sign b) n s ++ (stmt_text (sign b) n u ++ r)) _ z (omega arith)
+          goes_text (cost s + (cost u + m)) (cost s + cost u + m) _ (stmt_text (sign b) n s ++ (stmt_text (sign b) n u ++ r)) _ z
+          (omega arith)
           (append_assoc (stmt_text (sign b) n s) (stmt_text (sign b) n u) r)
           (lines s h.0 n (cost u + m) (stmt_text (sign b) n u ++ r) (onto u t) z (lines u h.1 n m r t z g))
       lines (branch e s u) h n m r t z g =
@@ -556,7 +598,8 @@ module _ (env : List Entry) (names : names_ok env ≡ true) where
           (lines s h.1 (suc n)) (lines u h.2 (suc n)) m r t z g
       lines (cases e arms) h n m r t z g =
           goes_text (suc (depth e + arms_cost arms + m)) (suc (depth e + arms_cost arms) + m) _
-          (indent n ++ (codes "case (" ++ (expr_text false e ++ (codes ")\n" ++ (arms_text (sign b) (suc n) arms ++ (indent n ++ (codes "endcase\n" ++ r)))))))
+          (indent n ++ (codes "case (" ++ (expr_text false e ++
+          (codes ")\n" ++ (arms_text (sign b) (suc n) arms ++ (indent n ++ (codes "endcase\n" ++ r)))))))
           _ z (omega arith) (simp append_assoc)
           (goes_next (suc (depth e + arms_cost arms + m)) _ _ _ z (next_indent n _)
           (case_goes n (arms_cost arms) e (arms_text (sign b) (suc n) arms) (tidy arms) m r t z h.0 (arms_go arms h.1 (suc n)) g))
@@ -564,8 +607,10 @@ module _ (env : List Entry) (names : names_ok env ≡ true) where
       pub arms_go : (arms : Arms) → ToldArms env arms → (n : ℕ) (r : List ℕ) →
           ArmsGo (arms_cost arms) (arms_text (sign b) n arms ++ r) (tidy arms) r
       arms_go (otherwise s) h n r =
-          last_goes (straight s) (flat_text (sign b) s) n (stmt_text (sign b) (suc n) s) r (cost s) s (λ p. flat_lines s p h) (lines s h (suc n))
+          last_goes (straight s) (flat_text (sign b) s) n (stmt_text (sign b) (suc n) s) r (cost s) s (λ p. flat_lines s p h)
+          (lines s h (suc n))
       arms_go (arm [] s c arms) h n r = absurd h
       arms_go (arm (e ∷ es) s c arms) h n r =
-          arm_goes (straight s) (flat_text (sign b) s) n e es c (stmt_text (sign b) (suc n) s) (arms_text (sign b) n arms) r (cost s) (arms_cost arms) s
+          arm_goes (straight s) (flat_text (sign b) s) n e es c (stmt_text (sign b) (suc n) s) (arms_text (sign b) n arms) r (cost s)
+          (arms_cost arms) s
           (tidy arms) h.0 h.1 h.3 (λ p. flat_lines s p h.2) (lines s h.2 (suc n)) (arms_go arms h.4 n r)

@@ -1,27 +1,28 @@
 -- The reader of modules reads what is printed.
-use Rattle.std.proofs.Common.{◌≡◌, ℕ, zero, suc, ◌+◌, ◌^◌, ◌<◌, ◌≤◌, Bool, true, false, cond, List, [], ◌∷◌, ◌++◌, Option, Some, None}
-use Rattle.std.proofs.Common.{refl, sym, ap, ◌∙◌, subst, codes, append_assoc, arith}
-use Rattle.std.specs.Prelude.{not, ◌&&◌, nat_eq, decimal}
-use Rattle.std.proofs.lemmas.Bool.{and_parts, and_from}
+use Rattle.std.proofs.Common.{◌≡◌, ℕ, zero, suc, ◌+◌, ◌^◌, ◌<◌, ◌≤◌, Bool, true, false, cond, List, [], ◌∷◌, ◌++◌, Option, Some}
+use Rattle.std.proofs.Common.{refl, ap, ◌∙◌, codes, append_assoc, arith}
+use Rattle.std.specs.Prelude.{nat_eq, decimal}
+use Rattle.std.proofs.lemmas.Bool.{and_from}
 use Prim.Native.String.{String}
 use lib.Chars.{text_of}
 use lib.Text.{eqt}
 use Rattle.verilog_tree.specs.Tree.{Size, Stmt, skip, Width, one, upto, wide, Item, note, gap, size, constant, input, output, reg}
 use Rattle.verilog_tree.specs.Tree.{memory, wire, settles, clocked}
-use Rattle.verilog_tree.specs.Print.{size_text, expr_text, indent, stmt_text, width_text, bits_text, item_text, items_text, port_text}
+use Rattle.verilog_tree.specs.Print.{size_text, expr_text, stmt_text, width_text, bits_text, items_text}
 use Rattle.verilog_tree.specs.Print.{more_ports, ports_text}
 use Rattle.verilog_tree.specs.WellFormed.{Entry, letter, spelt, identifier, one_line, size_ok, declared, all_declared, no_port, ports_first}
 use Rattle.verilog_texts.specs.Small.{names_ok, SmallSize}
 use Rattle.verilog_texts.proofs.Pieces.{front, rest, starts, behind, behind_not, digit, in_name, all, rest_of}
-use Rattle.verilog_texts.proofs.Reader.{Got, go_on, when, read_size, read}
+use Rattle.verilog_texts.proofs.Reader.{go_on, when, read}
 use Rattle.verilog_texts.proofs.Exact.{stops_at, number_front, number_rest, name_front, name_rest, name_starts, name_primary, size_depth}
 use Rattle.verilog_texts.proofs.Exact.{depth, sizes}
 use Rattle.verilog_texts.proofs.Blocks.{onto, next, sign, read_block}
-use Rattle.verilog_texts.proofs.Printed.{other_character, seen_front, next_visible, comment_line, spelling, cost, Told, ToldStmt, expr_reads, read_same}
+use Rattle.verilog_texts.proofs.Printed.{other_character, seen_front, next_visible, comment_line, spelling, cost, Told}
+use Rattle.verilog_texts.proofs.Printed.{ToldStmt, expr_reads, read_same}
 use Rattle.verilog_texts.proofs.Printed.{ending, lines}
 use Rattle.verilog_texts.proofs.Grouped.{body_of, ports_of, no_ports}
-use Rattle.verilog_texts.proofs.Modules.{width_end, width_from, read_width, named_item, wide_item, param_end, read_param, reg_end, read_wire}
-use Rattle.verilog_texts.proofs.Modules.{read_always, read_item, body_by, read_body, port_by, read_ports, read_module}
+use Rattle.verilog_texts.proofs.Modules.{width_from, read_width, named_item, wide_item, read_param, reg_end, read_wire}
+use Rattle.verilog_texts.proofs.Modules.{read_item, body_by, read_body, port_by, read_ports, read_module}
 
 -- items whose names are new, and whose numbers their text tells
 module _ (env : List Entry) where
@@ -107,12 +108,14 @@ module _ (env : List Entry) (names : names_ok env ≡ true) where
   width_reads (upto h) t k x r s l =
       ap (read_width k) grouped ∙ rw (sizes env names h k (codes ":0] " ++ (codes x ++ r)) l refl t.0 t.1) refl
     where
-      grouped : (codes "[" ++ (size_text h ++ codes ":0] ")) ++ (codes x ++ r) ≡ codes "[" ++ (size_text h ++ (codes ":0] " ++ (codes x ++ r)))
+      grouped : (codes "[" ++ (size_text h ++ codes ":0] ")) ++ (codes x ++ r) ≡ codes "[" ++
+          (size_text h ++ (codes ":0] " ++ (codes x ++ r)))
       grouped = simp append_assoc
   width_reads (wide h) t k x r s l =
       ap (read_width k) grouped ∙ rw (sizes env names h k (codes "-1:0] " ++ (codes x ++ r)) l refl t.0 t.1) refl
     where
-      grouped : (codes "[" ++ (size_text h ++ codes "-1:0] ")) ++ (codes x ++ r) ≡ codes "[" ++ (size_text h ++ (codes "-1:0] " ++ (codes x ++ r)))
+      grouped : (codes "[" ++ (size_text h ++ codes "-1:0] ")) ++ (codes x ++ r) ≡ codes "[" ++
+          (size_text h ++ (codes "-1:0] " ++ (codes x ++ r)))
       grouped = simp append_assoc
 
   wide_reads : {B : Type 0} → (w : Width) → ToldWidth env w → (k : ℕ) (x : String) (r : List ℕ) → spelt (codes x) ≡ true →
@@ -176,7 +179,8 @@ module _ (env : List Entry) (names : names_ok env ≡ true) where
   block_reads : (b : Bool) (k : ℕ) (s : Stmt) (r : List ℕ) → ToldStmt env s → cost s + 1 ≤ k →
       read_block env b k (10 ∷ (stmt_text (sign b) 2 s ++ (codes "  end" ++ (10 ∷ r)))) ≡ Some (onto s skip, 10 ∷ r)
   block_reads b k s r h l =
-      read_same env names b k (10 ∷ (stmt_text (sign b) 2 s ++ (codes "  end" ++ (10 ∷ r)))) (stmt_text (sign b) 2 s ++ (codes "  end" ++ (10 ∷ r))) refl
+      read_same env names b k (10 ∷ (stmt_text (sign b) 2 s ++ (codes "  end" ++ (10 ∷ r)))) (stmt_text (sign b) 2 s ++
+      (codes "  end" ++ (10 ∷ r))) refl
       ∙ lines env names b s h 2 1 (codes "  end" ++ (10 ∷ r)) skip (10 ∷ r) (ending env names b 1 1 (10 ∷ r) (omega arith) refl) k l
 
   settles_reads : (k : ℕ) (s : Stmt) (r : List ℕ) → ToldStmt env s → cost s + 1 ≤ k →
@@ -193,6 +197,7 @@ module _ (env : List Entry) (names : names_ok env ≡ true) where
 abbrev pub finish : List ℕ
 finish = codes "endmodule\n"
 
+-- the reader goes on at least once
 positive : (is : List Item) → body_cost is ≤ 0 → ⊥
 positive [] l = omega (arith, l)
 positive (note s ∷ is) l = positive is l
@@ -228,43 +233,51 @@ body_reads (output w x ∷ is) env n p h (suc k) l = absurd cc
 body_reads (size x m ∷ is) env n p h (suc k) l =
     one_item env n k "localparam"
     (codes " " ++ (codes x ++ (codes " = " ++ (decimal m ++ (59 ∷ 10 ∷ (items_text is ++ finish))))))
-    (59 ∷ 10 ∷ (items_text is ++ finish)) (items_text is ++ finish) (size x m) (body_of is) (10 ∷ []) (items_text (size x m ∷ is) ++ finish) refl refl refl (simp append_assoc)
+    (59 ∷ 10 ∷ (items_text is ++ finish)) (items_text is ++ finish) (size x m) (body_of is) (10 ∷ []) (items_text (size x m ∷ is) ++
+    finish) refl refl refl (simp append_assoc)
     (size_reads env n k x m (10 ∷ (items_text is ++ finish)) h.0.0 h.0.1) refl
     (body_reads is (declared env (size x m)) (names_more env (size x m) n h.0) p h.1 k (omega (arith, l)))
 body_reads (constant w x m ∷ is) env n p h (suc k) l =
     one_item env n k "localparam"
-    (codes " " ++ (width_text w ++ (codes x ++ (codes " = " ++ (bits_text w ++ (codes "'d" ++ (decimal m ++ (59 ∷ 10 ∷ (items_text is ++ finish)))))))))
-    (59 ∷ 10 ∷ (items_text is ++ finish)) (items_text is ++ finish) (constant w x m) (body_of is) (10 ∷ []) (items_text (constant w x m ∷ is) ++ finish) refl refl refl (simp append_assoc)
+    (codes " " ++ (width_text w ++ (codes x ++ (codes " = " ++
+    (bits_text w ++ (codes "'d" ++ (decimal m ++ (59 ∷ 10 ∷ (items_text is ++ finish)))))))))
+    (59 ∷ 10 ∷ (items_text is ++ finish)) (items_text is ++ finish) (constant w x m) (body_of is) (10 ∷ [])
+    (items_text (constant w x m ∷ is) ++ finish) refl refl refl (simp append_assoc)
     (constant_reads env n k w x m (10 ∷ (items_text is ++ finish)) h.0 (omega (arith, l))) refl
     (body_reads is (declared env (constant w x m)) (names_more env (constant w x m) n h.0) p h.1 k (omega (arith, l)))
 body_reads (reg w x ∷ is) env n p h (suc k) l =
     one_item env n k "reg"
     (codes " " ++ (width_text w ++ (codes x ++ (59 ∷ 10 ∷ (items_text is ++ finish)))))
-    (59 ∷ 10 ∷ (items_text is ++ finish)) (items_text is ++ finish) (reg w x) (body_of is) (10 ∷ []) (items_text (reg w x ∷ is) ++ finish) refl refl refl (simp append_assoc)
+    (59 ∷ 10 ∷ (items_text is ++ finish)) (items_text is ++ finish) (reg w x) (body_of is) (10 ∷ []) (items_text (reg w x ∷ is) ++ finish)
+    refl refl refl (simp append_assoc)
     (reg_reads env n k w x (10 ∷ (items_text is ++ finish)) h.0 (omega (arith, l))) refl
     (body_reads is (declared env (reg w x)) (names_more env (reg w x) n h.0) p h.1 k (omega (arith, l)))
 body_reads (memory w x m ∷ is) env n p h (suc k) l =
     one_item env n k "reg"
     (codes " " ++ (width_text w ++ (codes x ++ (codes " [0:" ++ (size_text m ++ (codes "-1]" ++ (59 ∷ 10 ∷ (items_text is ++ finish))))))))
-    (59 ∷ 10 ∷ (items_text is ++ finish)) (items_text is ++ finish) (memory w x m) (body_of is) (10 ∷ []) (items_text (memory w x m ∷ is) ++ finish) refl refl refl (simp append_assoc)
+    (59 ∷ 10 ∷ (items_text is ++ finish)) (items_text is ++ finish) (memory w x m) (body_of is) (10 ∷ [])
+    (items_text (memory w x m ∷ is) ++ finish) refl refl refl (simp append_assoc)
     (memory_reads env n k w x m (59 ∷ 10 ∷ (items_text is ++ finish)) h.0 (omega (arith, l)) (omega (arith, l))) refl
     (body_reads is (declared env (memory w x m)) (names_more env (memory w x m) n h.0) p h.1 k (omega (arith, l)))
 body_reads (wire w x e ∷ is) env n p h (suc k) l =
     one_item env n k "wire"
     (codes " " ++ (width_text w ++ (codes x ++ (codes " = " ++ (expr_text false e ++ (59 ∷ 10 ∷ (items_text is ++ finish)))))))
-    (59 ∷ 10 ∷ (items_text is ++ finish)) (items_text is ++ finish) (wire w x e) (body_of is) (10 ∷ []) (items_text (wire w x e ∷ is) ++ finish) refl refl refl (simp append_assoc)
+    (59 ∷ 10 ∷ (items_text is ++ finish)) (items_text is ++ finish) (wire w x e) (body_of is) (10 ∷ []) (items_text (wire w x e ∷ is) ++
+    finish) refl refl refl (simp append_assoc)
     (wire_reads env n k w x e (10 ∷ (items_text is ++ finish)) h.0 (omega (arith, l)) (omega (arith, l))) refl
     (body_reads is (declared env (wire w x e)) (names_more env (wire w x e) n h.0) p h.1 k (omega (arith, l)))
 body_reads (settles s ∷ is) env n p h (suc k) l =
     one_item env n k "always"
     (codes " @* begin" ++ (10 ∷ (stmt_text (sign true) 2 s ++ (codes "  end" ++ (10 ∷ (items_text is ++ finish))))))
-    (10 ∷ (items_text is ++ finish)) (items_text is ++ finish) (settles (onto s skip)) (body_of is) (10 ∷ []) (items_text (settles s ∷ is) ++ finish) refl refl refl (simp append_assoc)
+    (10 ∷ (items_text is ++ finish)) (items_text is ++ finish) (settles (onto s skip)) (body_of is) (10 ∷ [])
+    (items_text (settles s ∷ is) ++ finish) refl refl refl (simp append_assoc)
     (settles_reads env n k s (items_text is ++ finish) h.0 (omega (arith, l))) refl
     (body_reads is (declared env (settles s)) (names_more env (settles s) n h.0) p h.1 k (omega (arith, l)))
 body_reads (clocked s ∷ is) env n p h (suc k) l =
     one_item env n k "always"
     (codes " @(posedge clk) begin" ++ (10 ∷ (stmt_text (sign false) 2 s ++ (codes "  end" ++ (10 ∷ (items_text is ++ finish))))))
-    (10 ∷ (items_text is ++ finish)) (items_text is ++ finish) (clocked (onto s skip)) (body_of is) (10 ∷ []) (items_text (clocked s ∷ is) ++ finish) refl refl refl (simp append_assoc)
+    (10 ∷ (items_text is ++ finish)) (items_text is ++ finish) (clocked (onto s skip)) (body_of is) (10 ∷ [])
+    (items_text (clocked s ∷ is) ++ finish) refl refl refl (simp append_assoc)
     (clocked_reads env n k s (items_text is ++ finish) h.0 (omega (arith, l))) refl
     (body_reads is (declared env (clocked s)) (names_more env (clocked s) n h.0) p h.1 k (omega (arith, l)))
 
@@ -275,6 +288,7 @@ ports_end (input w x ∷ is) r = refl
 ports_end (output w x ∷ is) r = refl
 ports_end (i ∷ is) r = ports_end is r
 
+-- they are read
 pub ports_read : (is : List Item) (env : List Entry) → names_ok env ≡ true → ToldItems env is → (k : ℕ) (r : List ℕ) → ports_cost is ≤ k →
     read_ports k (more_ports is ++ (10 ∷ 41 ∷ r)) ≡ Some (ports_of is, 41 ∷ r)
 ports_read [] env n h zero r l = absurd (omega (arith, l))
@@ -332,13 +346,15 @@ first_port (i ∷ is) r = refl
 abbrev pub behind_name : List Item → List ℕ
 behind_name is = codes " (\n" ++ (ports_text is ++ (codes "\n);\n" ++ (items_text is ++ finish)))
 
+-- ports and body are read
 pub module_reads : (is : List Item) → ports_first is ≡ true → ToldItems [] is → (k : ℕ) → ports_cost is ≤ k → body_cost is ≤ k →
     when (behind (codes " (") (behind_name is)) (read_module k) ≡ Some ((ports_of is, body_of is), 10 ∷ [])
 module_reads is p h k l m =
     rw (
-      ports_same k (10 ∷ (ports_text is ++ (codes "\n);\n" ++ (items_text is ++ finish)))) (more_ports is ++ (codes "\n);\n" ++ (items_text is ++ finish)))
-      (first_port is (codes "\n);\n" ++ (items_text is ++ finish)))
-      ∙ ports_read is [] refl h k (codes ";\n" ++ (items_text is ++ finish)) l,
+      ports_same k (10 ∷ (ports_text is ++ (codes "\n);\n" ++ (items_text is ++ finish)))) (more_ports is ++
+      (codes "\n);\n" ++ (items_text is ++ finish)))
+          (first_port is (codes "\n);\n" ++ (items_text is ++ finish)))
+          ∙ ports_read is [] refl h k (codes ";\n" ++ (items_text is ++ finish)) l,
       body_same (all_declared [] (ports_of is)) k (codes ";\n" ++ (items_text is ++ finish)) (items_text is ++ finish) refl
-      ∙ after_ports is [] refl p h k m,
+          ∙ after_ports is [] refl p h k m,
     ) refl

@@ -1,6 +1,7 @@
 -- Trees that print alike. The prover computes them.
-use Rattle.std.specs.Prelude.{◌≡◌, ◌≢◌, ◌+◌, ◌^◌, ℕ, true, false, List, [], ◌∷◌}
-use Rattle.verilog_tree.specs.Tree.{count, sized, const, name, bit, word, whole, skip, put, seq, Stmt, one, wide, Item, input}
+use Rattle.std.specs.Prelude.{◌≡◌, ◌≢◌, ◌+◌, ◌<◌, ◌≤◌, ◌^◌, ℕ, true, false, List, [], ◌∷◌}
+use Rattle.verilog_tree.specs.Tree.{count, sized, const, name, bit, word, cat, right, shift}
+use Rattle.verilog_tree.specs.Tree.{whole, skip, put, seq, Stmt, one, wide, Item, input}
 use Rattle.verilog_tree.specs.Tree.{reg, clocked}
 use Rattle.verilog_tree.specs.Meaning.{Store, edge}
 use Rattle.verilog_tree.specs.Print.{expr_text, module_text}
@@ -25,6 +26,10 @@ long_number = 10 ^ 64 + 10 ^ 63
 abbrev pub sets : ℕ → Stmt
 sets n = put (whole "a") (sized 250 n)
 
+-- it is set to {1'd1, w'd0} >> k
+abbrev pub shifted : ℕ → ℕ → Stmt
+shifted k w = put (whole "a") (shift right (cat (sized 1 1) (sized w 0)) (sized 250 k))
+
 pub record ExampleSameTexts : Type 0 where
   -- a parameter and a vector, and a bit and a word of a memory
   pub names : expr_text true (const "x") ≡ expr_text true (name "x")
@@ -38,3 +43,7 @@ pub record ExampleSameTexts : Type 0 where
   pub other_edges : (S : Store) →
       (edge (module_of (sets short_number)) S).vec "a" ≢ (edge (module_of (sets long_number)) S).vec "a"
   pub refused : WellFormed (module_of (sets long_number)) ≡ false
+  -- but of the width that a number is written with nothing is asked: these are modules, print alike, and mean another thing
+  pub widths : PrintAlike (module_of (shifted short_number short_number)) (module_of (shifted short_number long_number))
+  pub other_widths : (w v : ℕ) → w < 2 ^ 250 → w + 250 ≤ v → (S : Store) →
+      ((edge (module_of (shifted w w)) S).vec "a" ≡ 1) × ((edge (module_of (shifted w v)) S).vec "a" ≡ 0)
