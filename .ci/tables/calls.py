@@ -8,7 +8,7 @@ from judging import TOP
 from tables.cases import call, case
 
 sys.path.insert(0, os.path.join(TOP, "tools"))
-from program import load  # noqa: E402
+from checks import term  # noqa: E402
 
 MOST = str(2**64 - 1)
 # functions, each with rows of numbers: sums and products up to an overflow, recursions by one and by several arguments, and one that
@@ -25,7 +25,6 @@ FUNCTIONS = [
     (b"fun x:nat. snd (x, pred x)", ["0", "1", MOST]),
 ]
 WORKERS, MANY = ["1", "2", "3", "64"], ["--budget", "100000"]
-TERMS = load(os.path.join(TOP, "tools", "check-circuit"))
 NUMBERS = ["0", "1", "2", "3", "7", str(2**32), str(2**63), MOST]
 
 
@@ -54,7 +53,7 @@ def made(dice):
     """A function of some numbers, made by chance, which has the first of them in it, and how many they are."""
     names, body = [f"a{it}" for it in range(dice.randrange(1, 5))], ""
     while "a0" not in body:
-        body = TERMS.term(dice, 5, [(name, "nat") for name in names])
+        body = term(dice, 5, [(name, "nat") for name in names])
     return "".join(f"fun {name}:nat. " for name in names).encode() + body.encode(), len(names)
 
 
