@@ -263,7 +263,7 @@ def now(window):
     return window.script("return walk.playing.motion ? -1 : Number(document.getElementById('slider').value)")
 
 
-def comes(window, wanted, seconds=10):
+def comes(window, wanted, seconds=60):
     """What the slider comes to within some seconds: the wanted number of moves, or where it is at the end."""
     until = time.time() + seconds
     while time.time() < until and now(window) != wanted:
