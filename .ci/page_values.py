@@ -61,6 +61,8 @@ def try_values(page, live, window, program, folder):
         without = sum(it[1] == "no value" for it in wanted)
         page.judge(f"{words} of {text}: calls without a value", f"{without} of them" in said, without > 0)
         page.judge(f"{words} of {text}: a point for each call", window.script(POINTS), len(rows))
+        shown = window.script("return document.getElementById('values-picture').getClientRects().length > 0")
+        page.judge(f"{words} of {text}: a picture of two calls and more", shown, len(rows) > 1)
         table = window.script("return machine.tableOfValues()").strip().split("\n")[1:]
         page.judge(f"{words} of {text}: the file", table, [",".join([*it[0].split(), *it[1:]]) for it in wanted])
     try_picture(page, window)

@@ -84,7 +84,7 @@ function drawValues() {
   const most = Math.max(1, ...heights.filter(it => it !== null));
   const points = heights.flatMap((it, at) => it === null ? [] : [[4 + 292 * at / Math.max(1, rows.length - 1), 88 - 70 * it / most]]);
   const picture = byId("values-picture");
-  picture.hidden = points.length < 2;
+  picture.toggleAttribute("hidden", points.length < 2);
   picture.setAttribute("aria-label", `the ${ofMoves ? "moves" : "values"} of the calls in turn, up to ${most}`);
   picture.querySelector("polyline").setAttribute("points", points.map(([x, y]) => `${x.toFixed(1)},${y.toFixed(1)}`).join(" "));
   picture.querySelector("text").textContent = most;
