@@ -264,7 +264,7 @@ def try_steps(page, window, walks):
         places = window.script("return walk.visitsOf(walk.view.run).map(it => it.at)")
         for number in (0, len(known) // 2, len(known) - 1):
             window.script("document.querySelectorAll('#steps-rows .step')[arguments[0]].click()", number)
-            there = window.script("return [walk.view.run.state.at, document.querySelector('#steps-rows .present b').textContent]")
+            there = window.script("return [walk.view.run.state.at, document.querySelector('#steps-rows .present b')?.textContent ?? null]")
             page.judge(f"{walk.name}: a press on step {number}", there, [places[number] + 1, " ".join(known[number][:2])])
         page.quiet(window, f"{walk.name}: steps")
 
