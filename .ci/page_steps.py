@@ -104,10 +104,10 @@ def try_steps(page, live, window, program, folder):
     # More than are shown at once.
     live.runs(window, programs.TEXTS["fibonacci.pcf"])
     listed(live, window)
-    for _ in range(2):
-        window.script("document.getElementById('steps-more').click()")
+    for first, button in ((200, "more"), (400, "more"), (200, "before"), (400, "more")):
+        window.script("document.getElementById(arguments[0]).click()", f"steps-{button}")
         live.waits(window, live.IDLE)
-    _, known = printed_steps(calls, programs.TEXTS["fibonacci.pcf"], "--from", "400")
-    page.judge("steps further on", [it[0] for it in window.script(ROWS)], [f"{it[0]} {it[1]}" for it in known])
+        _, known = printed_steps(calls, programs.TEXTS["fibonacci.pcf"], "--from", str(first), "--most", "200")
+        page.judge(f"steps from {first} on", [it[0] for it in window.script(ROWS)], [f"{it[0]} {it[1]}" for it in known])
     page.judge("and no more", window.script("return [document.getElementById('steps-before').disabled, document.getElementById('steps-more').disabled]"),
                [False, True])
