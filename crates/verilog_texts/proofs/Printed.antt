@@ -282,7 +282,7 @@ module _ (env : List Entry) (names : names_ok env ≡ true) where
         ∙ rw (
           expr_reads e h k (codes ") begin" ++ (10 ∷ inside)) (omega (arith, l)) (stops_at 41 _ refl refl refl refl),
           goes_next (c + 1) (10 ∷ inside) inside (onto s skip) (10 ∷ r) refl (i 1 (indent n ++ (codes "end" ++ (10 ∷ r))) skip (10 ∷ r)
-          (ending n 1 (10 ∷ r) (omega arith) refl)) k (omega (arith, l)),
+              (ending n 1 (10 ∷ r) (omega arith) refl)) k (omega (arith, l)),
           goes_next m (10 ∷ r) r u z refl g k (omega (arith, l)),
         ) refl
       where
@@ -301,10 +301,10 @@ module _ (env : List Entry) (names : names_ok env ≡ true) where
         ∙ rw (
           expr_reads e h k (codes ") begin" ++ (10 ∷ inside)) (omega (arith, l)) (stops_at 41 _ refl refl refl refl),
           goes_next (c + 1) (10 ∷ inside) inside (onto s skip) (codes " else begin" ++ (10 ∷ second)) refl
-          (i 1 (indent n ++ (codes "end" ++ (codes " else begin" ++ (10 ∷ second)))) skip (codes " else begin" ++ (10 ∷ second))
-          (ending n 1 (codes " else begin" ++ (10 ∷ second)) (omega arith) refl)) k (omega (arith, l)),
+              (i 1 (indent n ++ (codes "end" ++ (codes " else begin" ++ (10 ∷ second)))) skip (codes " else begin" ++ (10 ∷ second))
+              (ending n 1 (codes " else begin" ++ (10 ∷ second)) (omega arith) refl)) k (omega (arith, l)),
           goes_next (d + 1) (10 ∷ second) second (onto t skip) (10 ∷ r) refl (j 1 (indent n ++ (codes "end" ++ (10 ∷ r))) skip (10 ∷ r)
-          (ending n 1 (10 ∷ r) (omega arith) refl)) k (omega (arith, l)),
+              (ending n 1 (10 ∷ r) (omega arith) refl)) k (omega (arith, l)),
           goes_next m (10 ∷ r) r u z refl g k (omega (arith, l)),
         ) refl
       where
@@ -397,8 +397,10 @@ module _ (env : List Entry) (names : names_ok env ≡ true) where
     no_default (pick d a c) h = refl
 
     default_reads : (k : ℕ) (r : List ℕ) → 2 ≤ k →
-        read false env k (codes "default" ++ (58 ∷ r)) ≡ Some (cond (of_kind parameter env "default") (const "default") (name "default"),
-        58 ∷ r)
+        read false env k (codes "default" ++ (58 ∷ r)) ≡ Some (
+          cond (of_kind parameter env "default") (const "default") (name "default"),
+          58 ∷ r,
+        )
     default_reads k r l =
         atom env names false k _ (codes "default" ++ (58 ∷ r)) (58 ∷ r) l (name_primary "default" (58 ∷ r) refl) inner
         (stops_at 58 r refl refl refl refl)
@@ -443,7 +445,7 @@ module _ (env : List Entry) (names : names_ok env ≡ true) where
     tail_goes true f n c l r d s h i j = (
       said_text c ++ r,
       (λ k m. goes_next (d + 1) (32 ∷ (f ++ (codes "end" ++ (said_text c ++ r)))) (f ++ (codes "end" ++ (said_text c ++ r))) (onto s skip)
-      (said_text c ++ r) refl
+          (said_text c ++ r) refl
           (i refl 1 (codes "end" ++ (said_text c ++ r)) skip (said_text c ++ r) (ending 0 1 (said_text c ++ r) (omega arith)
           (said_ends c r))) k m),
       said_next c r h,
@@ -451,7 +453,7 @@ module _ (env : List Entry) (names : names_ok env ≡ true) where
     tail_goes false f n c l r d s h i j = (
       10 ∷ r,
       (λ k m. goes_next (d + 1) (said_text c ++ (l ++ (indent n ++ (codes "end" ++ (10 ∷ r)))))
-      (l ++ (indent n ++ (codes "end" ++ (10 ∷ r)))) (onto s skip) (10 ∷ r)
+          (l ++ (indent n ++ (codes "end" ++ (10 ∷ r)))) (onto s skip) (10 ∷ r)
           (said_next c (l ++ (indent n ++ (codes "end" ++ (10 ∷ r)))) h)
           (j 1 (indent n ++ (codes "end" ++ (10 ∷ r))) skip (10 ∷ r) (ending n 1 (10 ∷ r) (omega arith) refl)) k m),
       refl,

@@ -352,7 +352,7 @@ pub module_reads : (is : List Item) → ports_first is ≡ true → ToldItems []
 module_reads is p h k l m =
     rw (
       ports_same k (10 ∷ (ports_text is ++ (codes "\n);\n" ++ (items_text is ++ finish)))) (more_ports is ++
-      (codes "\n);\n" ++ (items_text is ++ finish)))
+          (codes "\n);\n" ++ (items_text is ++ finish)))
           (first_port is (codes "\n);\n" ++ (items_text is ++ finish)))
           ∙ ports_read is [] refl h k (codes ";\n" ++ (items_text is ++ finish)) l,
       body_same (all_declared [] (ports_of is)) k (codes ";\n" ++ (items_text is ++ finish)) (items_text is ++ finish) refl
