@@ -4,7 +4,7 @@ pub mod Tree
 pub mod Meaning
 -- Which trees are modules that a tool takes, and that mean it.
 pub mod WellFormed
--- Its text, of which no law speaks yet but an example.
+-- Its text.
 pub mod Print
 -- The text of a list of bytes.
 pub mod Names

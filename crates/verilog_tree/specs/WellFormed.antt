@@ -498,7 +498,7 @@ bare q e = false
 -- an expression in which all of this is so
 abbrev pub expr_fits : Limits → Expr → Bool
 expr_fits L (num n) = small n
-expr_fits L (sized w n) = told n
+expr_fits L (sized w n) = small w && told n
 expr_fits L (const x) = true
 expr_fits L (name x) = true
 expr_fits L (bit x e) = L.at_bit x e && expr_fits L e
