@@ -9,7 +9,7 @@ use Rattle.verilog_tree.specs.Meaning.{scope, edge}
 use Rattle.verilog_tree.specs.Print.{stmt_text, module_text}
 use Rattle.verilog_tree.specs.WellFormed.{Entry, stmt_ok, items_ok, ports_first, in_order, size_in, limits, limits_of, stmt_fits, items_fit}
 use Rattle.verilog_tree.specs.WellFormed.{WellFormed}
-use Rattle.verilog_texts.specs.Small.{names_ok, stmt_told, all_told}
+use Rattle.verilog_texts.specs.Small.{names_ok}
 use Rattle.verilog_texts.specs.Laws.{OneBlock, OneMeaning}
 use Rattle.verilog_texts.proofs.Pieces.{front, rest, behind, in_name}
 use Rattle.verilog_texts.proofs.Reader.{Got, when}
@@ -40,12 +40,10 @@ one_list env names b s t n g h e =
 -- so they do the same
 pub one_block : OneBlock
 one_block env names P q xs ys s t f g n =
-    let a = and_parts (stmt_ok env xs s) (stmt_fits (limits_of P q) s && stmt_told s) f in
-    let b = and_parts (stmt_ok env ys t) (stmt_fits (limits_of P q) t && stmt_told t) g in
-    let c = and_parts (stmt_fits (limits_of P q) s) (stmt_told s) a.1 in
-    let d = and_parts (stmt_fits (limits_of P q) t) (stmt_told t) b.1 in
-    let u = told_stmt P q env names xs s a.0 c.0 c.1 in
-    let v = told_stmt P q env names ys t b.0 d.0 d.1 in (
+    let a = and_parts (stmt_ok env xs s) (stmt_fits (limits_of P q) s) f in
+    let b = and_parts (stmt_ok env ys t) (stmt_fits (limits_of P q) t) g in
+    let u = told_stmt P q env names xs s a.0 a.1 in
+    let v = told_stmt P q env names ys t b.0 b.1 in (
       (λ e Q S. one_run Q s t (one_list env names true s t n u v e) S),
       (λ e Q R S. one_fire Q R s t (one_list env names false s t n u v e) S),
     )
@@ -59,12 +57,12 @@ abbrev left_of : Option (List ℕ) → List ℕ
 left_of None = []
 left_of (Some cs) = cs
 
-told_module : (is : List Item) → WellFormed is ≡ true → all_told is ≡ true → (ports_first is ≡ true) × ToldItems [] is
-told_module is f a =
+told_module : (is : List Item) → WellFormed is ≡ true → (ports_first is ≡ true) × ToldItems [] is
+told_module is f =
     let p = and_parts (ports_first is && items_ok [] [] is) (in_order is && items_fit (limits is) is) f in
     let q = and_parts (ports_first is) (items_ok [] [] is) p.0 in
     let r = and_parts (in_order is) (items_fit (limits is) is) p.1 in
-    (q.0, told_items (scope is) (size_in is) is [] [] refl q.1 r.1 a)
+    (q.0, told_items (scope is) (size_in is) is [] [] refl q.1 r.1)
 
 one_text : (is js : List Item) → (ports_first is ≡ true) × ToldItems [] is → (ports_first js ≡ true) × ToldItems [] js →
     behind_name is ≡ behind_name js → (S : _) → edge is S ≡ edge js S
@@ -77,11 +75,11 @@ one_text is js f g e S =
     one_edge is js f.0 g.0 (ap (λ (p : List Item × List Item). p.0) m) (ap (λ (p : List Item × List Item). p.1) m) S
 
 pub one_meaning : OneMeaning
-one_meaning is js f g a b x y i j e =
+one_meaning is js f g x y i j e =
     let d : codes x ++ behind_name is ≡ codes y ++ behind_name js =
     ap (λ t. left_of (behind (codes "module ") t)) (sym (module_is x is) ∙ e ∙ module_is y js) in (
       sym (name_front x (behind_name is) (spelling x i) refl) ∙ ap (λ t. text_of (front in_name t)) d
           ∙ name_front y (behind_name js) (spelling y j) refl,
-      one_text is js (told_module is f a) (told_module js g b)
+      one_text is js (told_module is f) (told_module js g)
           (sym (name_rest x (behind_name is) (spelling x i) refl) ∙ ap (rest in_name) d ∙ name_rest y (behind_name js) (spelling y j) refl),
     )

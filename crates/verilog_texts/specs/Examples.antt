@@ -1,5 +1,5 @@
 -- Trees that print alike. The prover computes them.
-use Rattle.std.specs.Prelude.{◌≡◌, ◌≢◌, ◌+◌, ◌<◌, ◌≤◌, ◌^◌, ℕ, true, false, List, [], ◌∷◌}
+use Rattle.std.specs.Prelude.{◌≡◌, ◌≢◌, ◌+◌, ◌^◌, ℕ, true, false, List, [], ◌∷◌}
 use Rattle.verilog_tree.specs.Tree.{count, sized, const, name, bit, word, cat, right, shift}
 use Rattle.verilog_tree.specs.Tree.{whole, skip, put, seq, Stmt, one, wide, Item, input}
 use Rattle.verilog_tree.specs.Tree.{reg, clocked}
@@ -43,7 +43,6 @@ pub record ExampleSameTexts : Type 0 where
   pub other_edges : (S : Store) →
       (edge (module_of (sets short_number)) S).vec "a" ≢ (edge (module_of (sets long_number)) S).vec "a"
   pub refused : WellFormed (module_of (sets long_number)) ≡ false
-  -- but of the width that a number is written with nothing is asked: these are modules, print alike, and mean another thing
-  pub widths : PrintAlike (module_of (shifted short_number short_number)) (module_of (shifted short_number long_number))
-  pub other_widths : (w v : ℕ) → w < 2 ^ 250 → w + 250 ≤ v → (S : Store) →
-      ((edge (module_of (shifted w w)) S).vec "a" ≡ 1) × ((edge (module_of (shifted w v)) S).vec "a" ≡ 0)
+  -- and so of the width that a number is written with
+  pub wide : module_text "m" (module_of (shifted short_number short_number)) ≡ module_text "m" (module_of (shifted short_number long_number))
+  pub refused_wide : WellFormed (module_of (shifted 1 long_number)) ≡ false

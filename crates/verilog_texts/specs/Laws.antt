@@ -5,7 +5,7 @@ use Rattle.verilog_tree.specs.Tree.{Expr, Stmt, Item}
 use Rattle.verilog_tree.specs.Meaning.{Scope, Store, run, fire, edge}
 use Rattle.verilog_tree.specs.Print.{expr_text, stmt_text, module_text}
 use Rattle.verilog_tree.specs.WellFormed.{Entry, identifier, expr_ok, stmt_ok, limits_of, stmt_fits, WellFormed}
-use Rattle.verilog_texts.specs.Small.{names_ok, Small, stmt_told, all_told}
+use Rattle.verilog_texts.specs.Small.{names_ok, Small}
 
 -- where names are declared, no two expressions print alike
 abbrev pub OneExpression : Type 0
@@ -14,7 +14,7 @@ OneExpression = (env : List Entry) → names_ok env ≡ true → (c : Bool) (a b
 
 -- a statement of a block that drives these, as a module has it
 abbrev pub fine_block : List Entry → Scope → (String → Bool) → List String → Stmt → Bool
-fine_block env P sizes mine s = stmt_ok env mine s && (stmt_fits (limits_of P sizes) s && stmt_told s)
+fine_block env P sizes mine s = stmt_ok env mine s && stmt_fits (limits_of P sizes) s
 
 -- two statements of blocks that settle, and two of the clock, that print alike do the same
 abbrev pub OneBlock : Type 0
@@ -25,6 +25,6 @@ OneBlock = (env : List Entry) → names_ok env ≡ true → (P : Scope) (sizes :
 
 -- two modules that print alike have one name and the same edges
 abbrev pub OneMeaning : Type 0
-OneMeaning = (is js : List Item) → WellFormed is ≡ true → WellFormed js ≡ true → all_told is ≡ true → all_told js ≡ true →
+OneMeaning = (is js : List Item) → WellFormed is ≡ true → WellFormed js ≡ true →
     (x y : String) → identifier x ≡ true → identifier y ≡ true → module_text x is ≡ module_text y js →
     (x ≡ y) × ((S : Store) → edge is S ≡ edge js S)

@@ -13,13 +13,13 @@ pub fn law_block()
     ensures { OneBlock }
 {}
 
-/// Two well-formed modules that print alike, in which no width of a number has more digits than its text, have one name and the same edges.
+/// Two well-formed modules that print alike have one name and the same edges.
 pub fn law_module()
     ensures { OneMeaning }
 {}
 
 /// Trees that print alike and aren't one. Two modules of them have the same edges; a tree in which a number has more than 64 digits has
-/// others than the one that prints alike, and is no module; and so have modules with a number whose width has more than 64 digits.
+/// others than the one that prints alike, and is no module; nor is a tree in which a number's width has.
 pub fn law_example_same_texts()
     ensures { ExampleSameTexts }
 {}
