@@ -44,5 +44,6 @@ pub record ExampleSameTexts : Type 0 where
       (edge (module_of (sets short_number)) S).vec "a" ≢ (edge (module_of (sets long_number)) S).vec "a"
   pub refused : WellFormed (module_of (sets long_number)) ≡ false
   -- and so of the width that a number is written with
-  pub wide : module_text "m" (module_of (shifted short_number short_number)) ≡ module_text "m" (module_of (shifted short_number long_number))
+  pub wide :
+      module_text "m" (module_of (shifted short_number short_number)) ≡ module_text "m" (module_of (shifted short_number long_number))
   pub refused_wide : WellFormed (module_of (shifted 1 long_number)) ≡ false
