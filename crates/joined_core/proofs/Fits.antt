@@ -1,5 +1,5 @@
 -- Where a row's names have their pointers, what it begins with is what the registers have.
-use Rattle.std.proofs.Common.{◌≡◌, ◌<◌, ℕ, zero, suc, ◌+◌, true, false, ◌||◌, List, [], ◌∷◌, length, Option, Some, None}
+use Rattle.std.proofs.Common.{◌≡◌, ◌<◌, ℕ, zero, suc, ◌+◌, Bool, true, false, cond, ◌||◌, List, [], ◌∷◌, length, Option, Some, None}
 use Rattle.std.proofs.Common.{refl, sym, ap, ◌∙◌, subst, arith}
 use Rattle.std.proofs.lemmas.Bool.{or_left, or_right}
 use Rattle.token_stacks.specs.Signatures.{Sig, left_of, right_of, pair_of, again, R, L, S, Work, Boxes}
@@ -10,7 +10,8 @@ use Rattle.joined_rows.specs.Open.{Amount, some, val_of, Spot, Walker, asks, say
 use Rattle.joined_rows.specs.Compound.{Pointer, Store, Account, read, has_name, Low, Right, AllRead, terms_of, signs_of, Lists}
 use Rattle.joined_rows.specs.Ticks.{Names, of_names}
 use Rattle.joined_rows.specs.CompoundTicks.{names_of}
-use Rattle.joined_rows.proofs.Compound.{low_up}
+use Rattle.joined_rows.proofs.Compound.{agree, low_up}
+use Rattle.net_rows.proofs.Small.{not_full}
 use Rattle.joined_core.specs.Rows.{sorts_of, work_sorts, Key, key_of, Site, nowhere, on_sigs, on_boxes, on_value, nothing}
 use Rattle.joined_core.specs.Rows.{Source, a_sig, a_box, a_word, a_part, given_at, JoinedRow}
 use Rattle.joined_core.specs.Right.{both_of, one_of, shape_from, shape_in, on_sigs_seen, on_boxes_seen, seen_cell}
@@ -41,7 +42,7 @@ boxes_all N [] = refl
 boxes_all N (x ∷ t) = ap (λ s. term_of N.sigs x ∷ s) (boxes_all N t)
 
 -- a work stack is told by its marks and its signatures
-sorts_long : (m : List Mark) (w : Work) → sorts_of m ≡ work_sorts w → length (terms_of m) ≡ length (signs_of w)
+pub sorts_long : (m : List Mark) (w : Work) → sorts_of m ≡ work_sorts w → length (terms_of m) ≡ length (signs_of w)
 sorts_long [] [] e = refl
 sorts_long [] (R ∷ w) e = absurd cc
 sorts_long [] (L ∷ w) e = absurd cc
@@ -83,6 +84,14 @@ work_told N (sign x ∷ m) (S s ∷ w) e h =
     ap (λ s. S s ∷ work_of (of_names N) m) a ∙ ap (λ w. S s ∷ w) b
 
 module _ (V : Store) (M : Account) (r : Right V M) (p : Pointer) (k : Lists) where
+  -- a part reads as a shape of the cell, and one without names wants no cell
+  part_reads : (x : Term) → term_of (M (cond (has_name x) p.place V.top)) x ≡ term_of (M p.place) x
+  part_reads x = go (has_name x) refl
+    where
+      go : (b : Bool) → has_name x ≡ b → term_of (M (cond b p.place V.top)) x ≡ term_of (M p.place) x
+      go true e = refl
+      go false e = agree (M V.top) (M p.place) x (λ h. not_full (sym h ∙ e))
+
   -- a source's pointer as a shape of the cell
   source_shape : (s : Source) (y : Term) → shape_from s ≡ Some y → (has_name y ≡ true → p.place < V.top) →
       read M (source_of V p k s) ≡ term_of (M p.place) y
@@ -91,7 +100,7 @@ module _ (V : Store) (M : Account) (r : Right V M) (p : Pointer) (k : Lists) whe
   source_shape (a_word i) y e l =
       let same : named i ≡ y = cc in
       r.says p.place i (l (ap has_name (sym same))) ∙ ap (term_of (M p.place)) same
-  source_shape (a_part x) y e l = let same : x ≡ y = cc in ap (term_of (M p.place)) same
+  source_shape (a_part x) y e l = let same : x ≡ y = cc in part_reads x ∙ ap (term_of (M p.place)) same
 
   module _ (G : ℕ → Source) where
     abbrev f : ℕ → Sig
@@ -199,7 +208,8 @@ module _ (V : Store) (M : Account) (r : Right V M) (w : Site) (k : JoinedToken) 
       let j : ℕ = (looked_at w k.lists).place in
       let l : j < V.top = seen_low sigs boxes a b h in
       low_up j V.top (V.words j i) (omega arith) (r.low j i l)
-  source_low sigs boxes a b (a_part x) h = λ e. seen_low sigs boxes a b (h e)
+  source_low sigs boxes a b (a_part x) h =
+      λ e. subst (λ c. cond c (looked_at w k.lists).place V.top < V.top) (sym e) (seen_low sigs boxes a b (h e))
 
   pub names_low : (sigs boxes : List Sig) → AllRead V.top M k.lists.sigs sigs → AllRead V.top M k.lists.boxes boxes →
       SourcesFit (seen_at w k) row.given → (n : ℕ) → Low V.top (g n)

@@ -33,7 +33,7 @@ at_power net mem = record {
   ready = refl;
 }
 
-run_meets : (net : NetTree) → Runs net → (n : ℕ) → Meets net (ticks net n (reset net))
+pub run_meets : (net : NetTree) → Runs net → (n : ℕ) → Meets net (ticks net n (reset net))
 run_meets net runs n = record {
   ready = (follows net runs n).ready;
   innermost = λ i x l m o s v w t e. forks_nest net runs n i x l m o s v w t (row_moves net runs n i x l ∙ e);

@@ -82,7 +82,7 @@ sorts_filled N (to_R ∷ m) = ap (λ x. is_R ∷ x) (sorts_filled N m)
 sorts_filled N (to_L ∷ m) = ap (λ x. is_L ∷ x) (sorts_filled N m)
 sorts_filled N (sign x ∷ m) = ap (λ x. is_sig ∷ x) (sorts_filled N m)
 
-module _ (V : Store) (M : Account) (r : Right V M) (g : ℕ → Pointer) (lows : (i : ℕ) → Low V.top (g i)) (vs : ℕ → Val) where
+module _ (V : Store) (M : Account) (r : Right V M) (g : ℕ → Pointer) (lows : (i : ℕ) → Low V.top (g i)) (u : Val) (vs : ℕ → Val) where
   abbrev N : Names
   N = names_of M g vs
 
@@ -161,7 +161,7 @@ module _ (V : Store) (M : Account) (r : Right V M) (g : ℕ → Pointer) (lows :
   half_lands (waiting q) (waits i p) j h a = tt
   half_lands (waiting q) (came v) j h a = elim h [ ]
   half_lands (left x) (waits i p) j h a = elim h [ ]
-  half_lands (left x) (came v) j h a = a ∙ amounts N x ∙ sym h
+  half_lands (left x) (came v) j h a = a ∙ ap Some (amounts N x ∙ sym h)
 
   forks_land : (b : Bool) (fs : List NamedFork) (os around : List OpenFork) (gs : List JoinedFork) → FewForks fs →
       ForksAre F around fs os → (forks_new fs ≡ true → b ≡ true) → IsStack V.top M around gs →
@@ -196,16 +196,16 @@ module _ (V : Store) (M : Account) (r : Right V M) (g : ℕ → Pointer) (lows :
   token_lands : (b : Bool) (x : Walker) → FewAt (terms_of (spot_of x).work) → FewAt (spot_of x).boxes →
       (any_new (terms_of (spot_of x).work) ≡ true → b ≡ true) →
       (any_new (spot_of x).boxes ≡ true → b ≡ true) →
-      IsToken (top_by b V.top) (acc b M V.top g) (token_in F x) (token_on g V.top (amount_of vs) x)
+      IsToken (top_by b V.top) (acc b M V.top g) (token_in F x) (token_on g V.top u (amount_of vs) x)
   token_lands b (asks s) v w h k = (
     refl,
-    stands (top_by b V.top) (acc b M V.top g) (token_on g V.top (amount_of vs) (asks s)) s.channel
+    stands (top_by b V.top) (acc b M V.top g) (token_on g V.top u (amount_of vs) (asks s)) s.channel
         (work_of F s.work) (boxes_of F s.boxes) refl (sorts_filled N s.work) (sigs_read b b s.work v h h) (boxes_read b b s.boxes w k k),
   )
   token_lands b (says a s) v w h k = (
     refl,
     amounts N a,
-    stands (top_by b V.top) (acc b M V.top g) (token_on g V.top (amount_of vs) (says a s)) s.channel
+    stands (top_by b V.top) (acc b M V.top g) (token_on g V.top u (amount_of vs) (says a s)) s.channel
         (work_of F s.work) (boxes_of F s.boxes) refl (sorts_filled N s.work) (sigs_read b b s.work v h h) (boxes_read b b s.boxes w k k),
   )
 
@@ -227,7 +227,7 @@ module _ (V : Store) (M : Account) (r : Right V M) (g : ℕ → Pointer) (lows :
   lands_by : (Y : Named) (C : JoinedCircuit) (T : Registers) (around : List OpenFork) (gs : List JoinedFork) (b : Bool) →
       makes_cell Y ≡ b → IsNamed F around Y T → Landed Y → IsStack V.top M around gs → C.result ≡ T.result → C.moves ≡ T.moves →
       C.full ≡ false → JoinedHas T (record C {
-        live = Some (token_on g V.top (amount_of vs) Y.live);
+        live = Some (token_on g V.top u (amount_of vs) Y.live);
         forks = forks_on g V.top (amount_of vs) Y.forks gs;
         store = stored b V g;
       })
@@ -239,8 +239,8 @@ module _ (V : Store) (M : Account) (r : Right V M) (g : ℕ → Pointer) (lows :
       record {
         account = A;
         right = right_on b;
-        live = subst (λ l. IsLive (stored b V g).top A l (Some (token_on g V.top (amount_of vs) Y.live))) (sym n.live)
-            (subst (λ k. IsToken k A (token_in F Y.live) (token_on g V.top (amount_of vs) Y.live)) (sym (top_on b))
+        live = subst (λ l. IsLive (stored b V g).top A l (Some (token_on g V.top u (amount_of vs) Y.live))) (sym n.live)
+            (subst (λ k. IsToken k A (token_in F Y.live) (token_on g V.top u (amount_of vs) Y.live)) (sym (top_on b))
             (token_lands b Y.live o.sigs o.boxes (λ q. sym e ∙ or_left w (x || y) q) (λ q. sym e ∙ or_right w (x || y) (or_left x y q))));
         forks = subst (λ k. IsStack k A T.forks (forks_on g V.top (amount_of vs) Y.forks gs)) (sym (top_on b))
             (stack_up (top_by y V.top) (top_by b V.top) A T.forks (forks_on g V.top (amount_of vs) Y.forks gs)
@@ -254,5 +254,5 @@ module _ (V : Store) (M : Account) (r : Right V M) (g : ℕ → Pointer) (lows :
   -- as the processor
   pub lands_has : (Y : Named) (C : JoinedCircuit) (T : Registers) (around : List OpenFork) (gs : List JoinedFork) → IsNamed F around Y T →
       Landed Y → IsStack V.top M around gs → C.result ≡ T.result → C.moves ≡ T.moves → C.full ≡ false →
-      JoinedHas T (lands Y V g (amount_of vs) gs C)
+      JoinedHas T (lands Y V g u (amount_of vs) gs C)
   lands_has Y C T around gs n o s h m f = lands_by Y C T around gs (makes_cell Y) refl n o s h m f

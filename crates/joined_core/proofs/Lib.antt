@@ -8,6 +8,8 @@ pub mod Waits
 pub mod Lands
 -- what a row begins with
 pub mod Fits
+-- a row that begins with one value
+pub mod OneValue
 -- a row is as many moves of the processor
 pub mod Step
 -- a circuit of some room does what the rows do

@@ -69,12 +69,12 @@ pub record Both (D E : JoinedCircuit) : Type 0 where
   pub same : E ≡ other D words
   pub agree : AgreeBelow D.store words
 
-lands_both : (Y : Named) (V : Store) (ws : ℕ → ℕ → Pointer) (g : ℕ → Pointer) (v : Amount → Val) (around : List JoinedFork)
+lands_both : (Y : Named) (V : Store) (ws : ℕ → ℕ → Pointer) (g : ℕ → Pointer) (u : Val) (v : Amount → Val) (around : List JoinedFork)
     (C : JoinedCircuit) (us : ℕ → ℕ → Pointer) → AgreeBelow V ws →
-    Both (lands Y V g v around C) (lands Y (change V ws) g v around (other C us))
-lands_both Y V ws g v around C us h = record {
+    Both (lands Y V g u v around C) (lands Y (change V ws) g u v around (other C us))
+lands_both Y V ws g u v around C us h = record {
   words = (stored (makes_cell Y) (change V ws) g).words;
-  same = ap (λ W. record (lands Y V g v around C) { store = W }) (stored_other (makes_cell Y) V ws g);
+  same = ap (λ W. record (lands Y V g u v around C) { store = W }) (stored_other (makes_cell Y) V ws g);
   agree = stored_agree (makes_cell Y) V ws g h;
 }
 
@@ -87,22 +87,24 @@ no_word : {A : Type 0} (gs : List Source) → SourcesFit nothing gs → (n i : �
 no_word gs h n i e = let no : false ≡ true = subst (SourceFits nothing) e (given_fits nothing gs h n) in absurd cc
 
 -- how a row ends is the same over both
-ends_both : (net : NetTree) (way : Way) (Y : Named) (g : ℕ → Pointer) (v : Amount → Val) (D : JoinedCircuit) (ws : ℕ → ℕ → Pointer) →
-    WayRuns net Y way → FirstLow D.store.top D.forks → AgreeBelow D.store ws → Both (ends way Y g v D) (ends way Y g v (other D ws))
-ends_both net onwards Y g v D ws w low h = lands_both Y D.store ws g v D.forks D ws h
-ends_both net answers_run Y g v D ws w low h = record { words = ws; same = refl; agree = h }
-ends_both net (answers_fork q) Y g v D ws w low h = go D.forks low
+ends_both : (net : NetTree) (way : Way) (Y : Named) (g : ℕ → Pointer) (u : Val) (v : Amount → Val) (D : JoinedCircuit) (ws : ℕ → ℕ →
+    Pointer) →
+    WayRuns net Y way → FirstLow D.store.top D.forks → AgreeBelow D.store ws →
+    Both (ends way Y g u v D) (ends way Y g u v (other D ws))
+ends_both net onwards Y g u v D ws w low h = lands_both Y D.store ws g u v D.forks D ws h
+ends_both net answers_run Y g u v D ws w low h = record { words = ws; same = refl; agree = h }
+ends_both net (answers_fork q) Y g u v D ws w low h = go D.forks low
   where
     go : (fs : List JoinedFork) → FirstLow D.store.top fs →
-        Both (meets_fork fs q (value_of v Y.live) D) (meets_fork fs q (value_of v Y.live) (other D ws))
+        Both (meets_fork fs q u (value_of u v Y.live) D) (meets_fork fs q u (value_of u v Y.live) (other D ws))
     go [] l = record { words = ws; same = refl; agree = h }
     go (f ∷ fs) l =
         let V : Store = back_to D.store f.top in
         let below : AgreeBelow V ws = λ j i m. h j i (omega arith) in
-        let vs : Amount → Val = amount_of (two_values (value_of v Y.live) f.answered) in
-        subst (λ g. Both (lands q.to V (fork_names V q f) vs fs D) (lands q.to (change V ws) g vs fs (other D ws)))
+        let vs : Amount → Val = amount_of (two_values (value_of u v Y.live) f.answered) in
+        subst (λ g. Both (lands q.to V (fork_names V q f) u vs fs D) (lands q.to (change V ws) g u vs fs (other D ws)))
         (sym (names_same V ws below nowhere (fork_lists f) q.given (λ n i e. no_word q.given w.2.fits.1 n i e)))
-        (lands_both q.to V ws (fork_names V q f) vs fs D ws below)
+        (lands_both q.to V ws (fork_names V q f) u vs fs D ws below)
 
 module _ (net : NetTree) (T : Table) (table : IsTable net T) (C : JoinedCircuit) (h : Keeps net C) (ws : ℕ → ℕ → Pointer)
     (agree : AgreeBelow C.store ws) where
@@ -140,8 +142,9 @@ module _ (net : NetTree) (T : Table) (table : IsTable net T) (C : JoinedCircuit)
         names_same C.store ws agree w k.lists r.given (λ n i z.
         seen_low C.store M h.right w k r (signs_of (work_at (place_of c))) (boxes_at (place_of c)) st.sigs st.boxes
         (subst (SourceFits e) z (given_fits e r.given runs.sources n))) in
-        subst (λ g. Both (ends r.way r.to (row_names C.store w k.lists r.given) vs D) (ends r.way r.to g vs (other D ws))) (sym names)
-        (ends_both net r.way r.to (row_names C.store w k.lists r.given) vs D ws runs.way
+        subst (λ g. Both (ends r.way r.to (row_names C.store w k.lists r.given) k.value vs D) (ends r.way r.to g k.value vs (other D ws)))
+        (sym names)
+        (ends_both net r.way r.to (row_names C.store w k.lists r.given) k.value vs D ws runs.way
         (stack_low C.store.top (ticks net C.moves (reset net)).forks C.forks h.forks) agree)
 
   on_both : (c : Option (ℕ × TokenTree)) (d : Option JoinedToken) → IsLive C.store.top M c d → Both (row_on T d C) (row_on T d (other C ws))

@@ -10,20 +10,20 @@ use Rattle.joined_core.specs.Listed.{Entry, find}
 use Rattle.joined_core.specs.Numbers.{key_number, find_number, NumbersDiffer, NumbersFind}
 use Rattle.joined_core.proofs.Same.{key_is}
 
-bool_self : (b : Bool) → same_bool b b ≡ true
+pub bool_self : (b : Bool) → same_bool b b ≡ true
 bool_self true = refl
 bool_self false = refl
 
-sort_self : (a : Sort) → same_sort a a ≡ true
+pub sort_self : (a : Sort) → same_sort a a ≡ true
 sort_self is_R = refl
 sort_self is_L = refl
 sort_self is_sig = refl
 
-sorts_self : (m : List Sort) → all_same same_sort m m ≡ true
+pub sorts_self : (m : List Sort) → all_same same_sort m m ≡ true
 sorts_self [] = refl
 sorts_self (a ∷ m) = and_from (same_sort a a) (all_same same_sort m m) (sort_self a) (sorts_self m)
 
-key_self : (k : Key) → same_key k k ≡ true
+pub key_self : (k : Key) → same_key k k ≡ true
 key_self k =
     and_from (same_bool k.answers k.answers) (same_channel k.channel k.channel && all_same same_sort k.marks k.marks) (bool_self k.answers)
     (and_from (same_channel k.channel k.channel) (all_same same_sort k.marks k.marks)
@@ -44,7 +44,7 @@ numbers_differ (x ∷ xs) j k l e =
     go false false p q l e rest = rest (omega arith) (omega arith)
 
 -- each key of the list has a number within it
-abbrev AllIn : List Entry → List Entry → Type 0
+abbrev pub AllIn : List Entry → List Entry → Type 0
 AllIn es [] = Unit {0}
 AllIn es (x ∷ xs) = (key_number es x.key < length es) × AllIn es xs
 
@@ -56,7 +56,7 @@ in_more y es (x ∷ xs) h = (go (same_key y.key x.key) h.0, in_more y es xs h.1)
     go true l = omega arith
     go false l = omega arith
 
-all_in : (es : List Entry) → AllIn es es
+pub all_in : (es : List Entry) → AllIn es es
 all_in [] = tt
 all_in (y ∷ es) = (
   let e = ap (λ b. cond b 0 (suc (key_number es y.key))) (key_self y.key) in omega arith,
@@ -64,7 +64,7 @@ all_in (y ∷ es) = (
 )
 
 -- numbers are equal just where keys are
-number_key : (es : List Entry) (j k : Key) → key_number es j < length es → nat_eq (key_number es j) (key_number es k) ≡ same_key j k
+pub number_key : (es : List Entry) (j k : Key) → key_number es j < length es → nat_eq (key_number es j) (key_number es k) ≡ same_key j k
 number_key es j k l = go (same_key j k) refl
   where
     go : (b : Bool) → same_key j k ≡ b → nat_eq (key_number es j) (key_number es k) ≡ b

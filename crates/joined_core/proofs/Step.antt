@@ -12,16 +12,16 @@ use Rattle.pcf_values.specs.declared.side.Side.TheVariants.{Left, Right}
 use Rattle.token_stacks.specs.Signatures.{Sig, Boxes}
 use Rattle.net_build.specs.Nets.{WireTree, NetTree}
 use Rattle.move_rules.specs.Places.{Place, up, down, TokenTree, ask, ans, place_of}
-use Rattle.move_rules.specs.Stacks.{boxes_at}
+use Rattle.move_rules.specs.Stacks.{work_at, boxes_at}
 use Rattle.move_rules.specs.Moves.{solo, join, answer}
-use Rattle.net_rows.specs.Rows.{Row, TEST, JOIN, ANSWER, falls, row_of, channel_of}
+use Rattle.net_rows.specs.Rows.{Row, TEST, JOIN, ANSWER, Channel, falls, row_of, channel_of}
 use Rattle.net_rows.specs.RowMoves.{at, answer_row, by_row, by_found, by_rows}
 use Rattle.newest_core.specs.Processor.{Half, waits, came, OpenFork, Registers, meets_half, meets, does, counted, tick_on, tick, ticks}
 use Rattle.newest_core.specs.ProcessorLaws.{Waits, IsInnermost}
 use Rattle.newest_core.specs.CircuitLaws.{MeetsInnermost}
 use Rattle.joined_rows.specs.Open.{Term, Amount, some, both, Spot, spot, Walker, asks, says, Filling, spot_of, val_of}
 use Rattle.joined_rows.specs.Open.{work_of, boxes_of, token_in}
-use Rattle.joined_rows.specs.Compound.{Pointer, Store, Account, Low, AllRead, back_to}
+use Rattle.joined_rows.specs.Compound.{Pointer, Store, Account, Low, AllRead, back_to, terms_of, signs_of}
 use Rattle.joined_rows.specs.Compound.{Right as IsRight}
 use Rattle.joined_rows.specs.Ticks.{Names, of_names, left, NamedFork, Named, named_tick, then_named, named_ticks, ForksAre, IsNamed}
 use Rattle.joined_rows.specs.CompoundTicks.{names_of}
@@ -30,19 +30,21 @@ use Rattle.joined_rows.proofs.Runs.{token_channel}
 use Rattle.joined_rows.proofs.Ticks.{joined_ticks}
 use Rattle.joined_rows.proofs.Compound.{given_back}
 use Rattle.cell_core.specs.Depths.{Placed}
-use Rattle.joined_core.specs.Rows.{Key, key_of, Site, nowhere, on_sigs, on_boxes, on_value, Seen, nothing, shaped, zero_is, is_zero, a_box}
+use Rattle.joined_core.specs.Rows.{sorts_of, Key, key_of, Site, nowhere, on_sigs, on_boxes, on_value, Seen, nothing, shaped, zero_is}
+use Rattle.joined_core.specs.Rows.{is_zero, a_box}
 use Rattle.joined_core.specs.Rows.{given_at, Second, Way, onwards, answers_run, answers_fork, JoinedRow, Table, test_moves, way_moves}
 use Rattle.joined_core.specs.Rows.{row_moves}
 use Rattle.joined_core.specs.Right.{test_by, found_test, begins, found_is_test, plain_ticks, alone, right_question, after_left, after_join}
 use Rattle.joined_core.specs.Right.{found_join, wire_at, has_depth, deep, IsTable}
 use Rattle.joined_core.specs.Circuit.{JoinedToken, JoinedFork, JoinedCircuit, pointer_at, looked_at, seen_at, row_names, value_of}
-use Rattle.joined_core.specs.Circuit.{amount_of}
+use Rattle.joined_core.specs.Circuit.{amount_of, left_answer}
 use Rattle.joined_core.specs.Circuit.{lands, two_values, fork_lists, fork_names, meets_fork, ends, joined_row, row_found, row_on, a_row}
 use Rattle.joined_core.specs.Laws.{StandsAt, IsToken, IsLive, IsHalf, IsStack, JoinedHas}
 use Rattle.joined_core.proofs.Told.{Landed, SecondFits, Answers, WayRuns, ValueNamed, RowRuns, row_runs}
 use Rattle.joined_core.proofs.Waits.{HalfWaits, ForksWait}
+use Rattle.joined_core.proofs.OneValue.{OneValue, ticks_one}
 use Rattle.joined_core.proofs.Lands.{amounts, lands_has}
-use Rattle.joined_core.proofs.Fits.{boxes_all, list_reads, reads_long, given_low, names_low, token_fits}
+use Rattle.joined_core.proofs.Fits.{boxes_all, sorts_long, list_reads, reads_long, given_low, names_low, token_fits}
 
 -- moves without a test are moves
 plain : (net : NetTree) (n : ℕ) (X Y : Named) → plain_ticks net n X ≡ Some Y → named_ticks net n X ≡ Some Y
@@ -121,18 +123,18 @@ module _ (N : Names) (around : List OpenFork) where
       })
 
   -- a join to which the token comes, and where the second part begins there
-  record JoinAt (net : NetTree) (o : Option (ℕ × Row)) (x : Walker) (t : List Term) (X : Named) : Type 0 where
+  record JoinAt (u : Val) (net : NetTree) (o : Option (ℕ × Row)) (x : Walker) (t : List Term) (X : Named) : Type 0 where
     node : ℕ
     op : Operator
     side : Side
     wire : ℕ
-    met : by_found o (token_in F x) ≡ join node op side (value_of (val_of F) x) wire (boxes_of F (spot_of x).boxes)
+    met : by_found o (token_in F x) ≡ join node op side (value_of u (val_of F) x) wire (boxes_of F (spot_of x).boxes)
     starts : after_join net node (JOIN op side wire) t ≡ Some X
 
-  join_row : (net : NetTree) (k : ℕ) (r : Row) (x : Walker) (t : List Term) (X : Named) → Answers x → after_join net k r t ≡ Some X →
-      JoinAt net (Some (k, r)) x t X
-  join_row net k r (asks s) t X a h = elim a [ ]
-  join_row net k (JOIN o e w) (says v s) t X a h = record {
+  join_row : (u : Val) (net : NetTree) (k : ℕ) (r : Row) (x : Walker) (t : List Term) (X : Named) → Answers x →
+      after_join net k r t ≡ Some X → JoinAt u net (Some (k, r)) x t X
+  join_row u net k r (asks s) t X a h = elim a [ ]
+  join_row u net k (JOIN o e w) (says v s) t X a h = record {
     node = k;
     op = o;
     side = e;
@@ -141,24 +143,24 @@ module _ (N : Names) (around : List OpenFork) where
         ∙ ap (λ m. answer_row k (JOIN o e w) (val_of F v) (work_of F m) (boxes_of F s.boxes)) a;
     starts = h;
   }
-  join_row net k r (says v s) t X a h = absurd cc
+  join_row u net k r (says v s) t X a h = absurd cc
 
-  join_at : (net : NetTree) (o : Option (ℕ × Row)) (x : Walker) (t : List Term) (X : Named) → Answers x → found_join net o t ≡ Some X →
-      JoinAt net o x t X
-  join_at net None x t X a h = absurd cc
-  join_at net (Some r) x t X a h = join_row net r.0 r.1 x t X a h
+  join_at : (u : Val) (net : NetTree) (o : Option (ℕ × Row)) (x : Walker) (t : List Term) (X : Named) → Answers x →
+      found_join net o t ≡ Some X → JoinAt u net o x t X
+  join_at u net None x t X a h = absurd cc
+  join_at u net (Some r) x t X a h = join_row u net r.0 r.1 x t X a h
 
   -- the run's answer
-  run_answers : (k : ℕ) (x : Walker) → Answers x → by_row k ANSWER (token_in F x) ≡ answer (value_of (val_of F) x)
-  run_answers k (asks s) a = elim a [ ]
-  run_answers k (says v s) a = by_says k ANSWER (val_of F v) s.channel (work_of F s.work) (boxes_of F s.boxes)
+  run_answers : (u : Val) (k : ℕ) (x : Walker) → Answers x → by_row k ANSWER (token_in F x) ≡ answer (value_of u (val_of F) x)
+  run_answers u k (asks s) a = elim a [ ]
+  run_answers u k (says v s) a = by_says k ANSWER (val_of F v) s.channel (work_of F s.work) (boxes_of F s.boxes)
 
   forks_same : (gs : List NamedFork) (os : List OpenFork) → gs ≡ [] → ForksAre F around gs os → os ≡ around
   forks_same gs os e h = subst (λ gs. ForksAre F around gs os) e h
 
-value_same : (N : Names) (x : Walker) → value_of (amount_of N.vals) x ≡ value_of (val_of (of_names N)) x
-value_same N (asks s) = refl
-value_same N (says a s) = amounts N a
+value_same : (u : Val) (N : Names) (x : Walker) → value_of u (amount_of N.vals) x ≡ value_of u (val_of (of_names N)) x
+value_same u N (asks s) = refl
+value_same u N (says a s) = amounts N a
 
 -- what a run of the processor always meets
 pub record Meets (net : NetTree) (R : Registers) : Type 0 where
@@ -171,8 +173,27 @@ as_long : (F : Filling) (xs : List Term) → F.boxes ≡ [] → length (boxes_of
 as_long F [] e = ap length e
 as_long F (x ∷ xs) e = ap suc (as_long F xs e)
 
+-- the fork that a second part answers: it has as many boxes; and its left answer came, or the part begins with one value
+pub record ForkThere (net : NetTree) (q : Second) (gs : List JoinedFork) : Type 0 where
+  pub fork : JoinedFork
+  pub around : List JoinedFork
+  pub forks : gs ≡ fork ∷ around
+  pub long : length q.boxes ≡ length fork.boxes
+  pub answered : OneValue q.to ⊎ ((v : Val) × (fork.answered ≡ Some v))
+
+left_one : (i : ℕ) (t : List Term) (o : Option Channel) (X : Named) → after_left i t o ≡ Some X → OneValue X
+left_one i t None X e = absurd cc
+left_one i t (Some d) X e =
+    let Z : Named = record { live = asks (spot d [] t); forks = record { node = i; boxes = t; half = left (some 0) } ∷ [] } in
+    let same : Z ≡ X = cc in
+    subst OneValue same (tt, (tt, tt))
+
+half_came : (h : Half) (g : JoinedFork) → Waits Right h → IsHalf h g → (v : Val) × (g.answered ≡ Some v)
+half_came (waits j l) g x y = elim x [ ]
+half_came (came u) g x y = (u, y)
+
 -- an answer at the innermost fork
-module _ (net : NetTree) (C : JoinedCircuit) (M : Account) (r : IsRight C.store M) where
+module _ (net : NetTree) (C : JoinedCircuit) (M : Account) (r : IsRight C.store M) (was : Val) where
   -- the second part, from the registers that the fork's answer leads to
   module _ (q : Second) (g : JoinedFork) (bs : Boxes) (h : AllRead g.top M g.boxes bs) (l : g.top ≤ C.store.top) (w : SecondFits q)
       (vs : ℕ → Val) where
@@ -197,10 +218,10 @@ module _ (net : NetTree) (C : JoinedCircuit) (M : Account) (r : IsRight C.store 
 
     second : (X : Named) (gs : List JoinedFork) (fs : List OpenFork) (T : Registers) → plain_ticks net q.moves X ≡ Some q.to →
         Landed q.to → IsNamed (of_names G) fs X T → IsStack g.top M fs gs → C.result ≡ T.result → C.moves ≡ T.moves + q.moves →
-        C.full ≡ false → JoinedHas (ticks net q.moves T) (lands q.to B P (amount_of vs) gs C)
+        C.full ≡ false → JoinedHas (ticks net q.moves T) (lands q.to B P was (amount_of vs) gs C)
     second X gs fs T e o n s c m f =
         let j = joined_ticks net q.moves X q.to (plain net q.moves X q.to e) G fs T n in
-        lands_has B M back_right P (given_low B M back_right nowhere (fork_lists g) q.given [] bs tt h w.1) vs q.to C
+        lands_has B M back_right P (given_low B M back_right nowhere (fork_lists g) q.given [] bs tt h w.1) was vs q.to C
         (ticks net q.moves T) fs gs j.0 o s (c ∙ sym j.2) (m ∙ sym j.1) f
 
   -- an answer that meets the innermost fork, as the operand that this waits for
@@ -212,7 +233,7 @@ module _ (net : NetTree) (C : JoinedCircuit) (M : Account) (r : IsRight C.store 
     vs = two_values a g.answered
 
     abbrev Q : Registers → Type 0
-    Q T = JoinedHas (ticks net q.moves T) (meets_fork (g ∷ gs) q a C)
+    Q T = JoinedHas (ticks net q.moves T) (meets_fork (g ∷ gs) q was a C)
 
     names : boxes_of (of_names (names_of M (fork_names (back_to C.store g.top) q g) vs)) q.boxes ≡ f.boxes
     names = fork_read q g f.boxes s.0.boxes s.0.low v vs long
@@ -252,7 +273,7 @@ module _ (net : NetTree) (C : JoinedCircuit) (M : Account) (r : IsRight C.store 
                 k,
                 ans (val_op o u a)
                     (at (falls w) [] (boxes_of (of_names (names_of M (fork_names (back_to C.store g.top) q g) vs)) q.boxes)),
-              )) (sym y);
+              )) (sym (ap left_answer y));
           forks = refl;
           ready = ready;
         }) s.1 c m full
@@ -266,11 +287,11 @@ module _ (net : NetTree) (C : JoinedCircuit) (M : Account) (r : IsRight C.store 
       (U : Registers) (X : Named) → SecondFits q → Landed q.to → length q.boxes ≡ length t → plain_ticks net q.moves X ≡ Some q.to →
       IsStack C.store.top M fs gs → IsInnermost fs i t d → ForksWait net fs → after_join net i (JOIN o d w) q.boxes ≡ Some X →
       C.result ≡ U.result → C.moves ≡ U.moves + q.moves → C.full ≡ false → U.full ≡ false →
-      JoinedHas (ticks net q.moves (meets fs k o a w t U)) (meets_fork gs q a C)
+      JoinedHas (ticks net q.moves (meets fs k o a w t U)) (meets_fork gs q was a C)
   fork_met q i k w o a d t [] gs U X v p long leads s inn wait e c m full ready = elim inn [ ]
   fork_met q i k w o a d t (f ∷ fs) [] U X v p long leads s inn wait e c m full ready = elim s [ ]
   fork_met q i k w o a d t (f ∷ fs) (g ∷ gs) U X v p long leads s inn wait e c m full ready =
-      subst (λ t. JoinedHas (ticks net q.moves (meets_half f.half f fs k o a w t U)) (meets_fork (g ∷ gs) q a C)) inn.1
+      subst (λ t. JoinedHas (ticks net q.moves (meets_half f.half f fs k o a w t U)) (meets_fork (g ∷ gs) q was a C)) inn.1
       (side_met q i k w o a f fs g gs U X v p (long ∙ ap length (sym inn.1)) leads s inn.0 c m full ready d inn.2 wait.0 e)
 
   module _ (g : ℕ → Pointer) (lows : (i : ℕ) → Low C.store.top (g i)) (vs : ℕ → Val) (around : List OpenFork)
@@ -286,45 +307,79 @@ module _ (net : NetTree) (C : JoinedCircuit) (M : Account) (r : IsRight C.store 
     U = counted net x T
 
     abbrev v : Val
-    v = value_of (val_of (of_names N)) Y.live
+    v = value_of was (val_of (of_names N)) Y.live
 
     ends_has : (way : Way) → WayRuns net Y way → C.moves ≡ T.moves + way_moves way →
-        JoinedHas (ticks net (way_moves way) T) (ends way Y g (amount_of vs) C)
+        JoinedHas (ticks net (way_moves way) T) (ends way Y g was (amount_of vs) C)
     ends_has onwards w m =
         let e : C.moves ≡ T.moves = omega arith in
-        lands_has C.store M r g lows vs Y C T around C.forks n w s c e full
+        lands_has C.store M r g lows was vs Y C T around C.forks n w s c e full
     ends_has answers_run w m =
         let row : row_of net (spot_of Y.live).channel ≡ Some (w.2.0, ANSWER) = w.2.1 in
         let t : tick net T ≡ record U { live = None; result = Some v } =
         tick_is N around net Y T n ∙ ap (λ o. does (by_found o x) n.ticket U) row
-        ∙ ap (λ m. does m n.ticket U) (run_answers N around w.2.0 Y.live w.0) in
-        subst (λ R. JoinedHas R (ends answers_run Y g (amount_of vs) C)) (sym t) (record {
+        ∙ ap (λ m. does m n.ticket U) (run_answers N around was w.2.0 Y.live w.0) in
+        subst (λ R. JoinedHas R (ends answers_run Y g was (amount_of vs) C)) (sym t) (record {
           account = M;
           right = r;
           live = tt;
           forks = subst (λ os. IsStack C.store.top M os C.forks) (sym (forks_same N around Y.forks T.forks w.1 n.forks)) s;
-          result = ap Some (value_same N Y.live);
+          result = ap Some (value_same was N Y.live);
           moves = omega arith;
           ready = full;
         })
     ends_has (answers_fork q) w m =
         let met = w.2 in
-        let j = join_at N around net (row_of net (spot_of Y.live).channel) Y.live q.boxes met.led.start w.0 met.led.starts in
+        let j = join_at N around was net (row_of net (spot_of Y.live).channel) Y.live q.boxes met.led.start w.0 met.led.starts in
         let t : Boxes = boxes_of (of_names N) (spot_of Y.live).boxes in
         let there : T.forks ≡ around = forks_same N around Y.forks T.forks w.1 n.forks in
         let inn : IsInnermost around j.node t j.side = subst (λ os. IsInnermost os j.node t j.side) there
         (run.innermost n.ticket x n.live j.node j.op j.side v j.wire t (way_is N around net Y.live ∙ j.met)) in
-        let way : tick net T ≡ meets around n.ticket j.op (value_of (amount_of vs) Y.live) j.wire t U =
+        let way : tick net T ≡ meets around n.ticket j.op (value_of was (amount_of vs) Y.live) j.wire t U =
         tick_is N around net Y T n ∙ ap (λ m. does m n.ticket U) j.met
         ∙ ap (λ os. meets os n.ticket j.op v j.wire t U) there
-        ∙ ap (λ v. meets around n.ticket j.op v j.wire t U) (sym (value_same N Y.live)) in
-        subst (λ R. JoinedHas (ticks net q.moves R) (meets_fork C.forks q (value_of (amount_of vs) Y.live) C)) (sym way)
-        (fork_met q j.node n.ticket j.wire j.op (value_of (amount_of vs) Y.live) j.side t around C.forks U met.led.start met.fits met.landed
+        ∙ ap (λ v. meets around n.ticket j.op v j.wire t U) (sym (value_same was N Y.live)) in
+        subst (λ R. JoinedHas (ticks net q.moves R) (meets_fork C.forks q was (value_of was (amount_of vs) Y.live) C)) (sym way)
+        (fork_met q j.node n.ticket j.wire j.op (value_of was
+        (amount_of vs) Y.live) j.side t around C.forks U met.led.start met.fits met.landed
         (met.long ∙ sym (as_long (of_names N) (spot_of Y.live).boxes refl)) met.led.leads s inn
         (subst (ForksWait net) there run.waits) j.starts c (omega arith) full n.ready)
 
+    -- and the fork is there
+    pub fork_there : (q : Second) → WayRuns net Y (answers_fork q) → ForkThere net q C.forks
+    fork_there q w =
+        let met = w.2 in
+        let j = join_at N around was net (row_of net (spot_of Y.live).channel) Y.live q.boxes met.led.start w.0 met.led.starts in
+        let t : Boxes = boxes_of (of_names N) (spot_of Y.live).boxes in
+        let there : T.forks ≡ around = forks_same N around Y.forks T.forks w.1 n.forks in
+        let inn : IsInnermost around j.node t j.side = subst (λ os. IsInnermost os j.node t j.side) there
+        (run.innermost n.ticket x n.live j.node j.op j.side v j.wire t (way_is N around net Y.live ∙ j.met)) in
+        go j.side j.node j.op j.wire t (met.long ∙ sym (as_long (of_names N) (spot_of Y.live).boxes refl)) met.led.start met.led.leads
+        j.starts around C.forks inn s
+      where
+        go : (d : Side) (i : ℕ) (o : Operator) (w : ℕ) (t : Boxes) → length q.boxes ≡ length t → (X : Named) →
+            plain_ticks net q.moves X ≡ Some q.to → after_join net i (JOIN o d w) q.boxes ≡ Some X →
+            (fs : List OpenFork) (gs : List JoinedFork) → IsInnermost fs i t d → IsStack C.store.top M fs gs → ForkThere net q gs
+        go d i o w t l X led e [] gs inn s = elim inn [ ]
+        go d i o w t l X led e (f ∷ fs) [] inn s = elim s [ ]
+        go Left i o w t l X led e (f ∷ fs) (g ∷ gs) inn s = record {
+          fork = g;
+          around = gs;
+          forks = refl;
+          long = l ∙ ap length (sym inn.1) ∙ sym (reads_long g.top M g.boxes f.boxes s.0.boxes);
+          answered = inl (ticks_one net q.moves X q.to (plain net q.moves X q.to led)
+              (left_one i q.boxes (right_question net i) X e));
+        }
+        go Right i o w t l X led e (f ∷ fs) (g ∷ gs) inn s = record {
+          fork = g;
+          around = gs;
+          forks = refl;
+          long = l ∙ ap length (sym inn.1) ∙ sym (reads_long g.top M g.boxes f.boxes s.0.boxes);
+          answered = inr (half_came f.half g inn.2 s.0.half);
+        }
+
 -- as many boxes as the wire is deep
-deep_long : (net : NetTree) (s : Spot) (p : Place) → deep net s ≡ true → s.channel ≡ channel_of p → Placed net p →
+pub deep_long : (net : NetTree) (s : Spot) (p : Place) → deep net s ≡ true → s.channel ≡ channel_of p → Placed net p →
     length s.boxes ≡ length (boxes_at p)
 deep_long net s p h e placed = go p e placed
   where
@@ -339,12 +394,13 @@ deep_long net s p h e placed = go p e placed
     go (down i m t) e w = at_wire i w.0 t (ap wire_at e) w.1 w.2.0
 
 -- a row's end counts no more moves than the row
-pub ends_moves : (way : Way) (Y : Named) (g : ℕ → Pointer) (v : Amount → Val) (D : JoinedCircuit) → (ends way Y g v D).moves ≡ D.moves
-ends_moves onwards Y g v D = refl
-ends_moves answers_run Y g v D = refl
-ends_moves (answers_fork q) Y g v D = go D.forks
+pub ends_moves : (way : Way) (Y : Named) (g : ℕ → Pointer) (u : Val) (v : Amount → Val) (D : JoinedCircuit) →
+    (ends way Y g u v D).moves ≡ D.moves
+ends_moves onwards Y g u v D = refl
+ends_moves answers_run Y g u v D = refl
+ends_moves (answers_fork q) Y g u v D = go D.forks
   where
-    go : (fs : List JoinedFork) → (meets_fork fs q (value_of v Y.live) D).moves ≡ D.moves
+    go : (fs : List JoinedFork) → (meets_fork fs q u (value_of u v Y.live) D).moves ≡ D.moves
     go [] = refl
     go (f ∷ fs) = refl
 
@@ -383,6 +439,61 @@ module _ (net : NetTree) (T : Table) (table : IsTable net T) (R : Registers) (C 
     key_channel (asks s) = refl
     key_channel (says a s) = refl
 
+    key_marks : (y : Walker) → (key_of y).marks ≡ sorts_of (spot_of y).work
+    key_marks (asks s) = refl
+    key_marks (says a s) = refl
+
+    zero_seen : (w : Site) (b : Bool) → seen_at w k ≡ zero_is b → is_zero k.value ≡ b
+    zero_seen nowhere b e = absurd cc
+    zero_seen on_sigs b e = absurd cc
+    zero_seen on_boxes b e = absurd cc
+    zero_seen on_value b e = cc
+
+    valued : (N : Names) (a : Amount) (s : Spot) → ValueNamed (says a s) → ((n : ℕ) → N.vals n ≡ k.value) →
+        val_of (of_names N) a ≡ k.value
+    valued N (some n) s v q = q n
+    valued N a s v q = elim v [ ]
+
+    value_zero : (r : JoinedRow) → RowRuns net w k.key e r → (b : Bool) → e ≡ zero_is b → (a : Amount) (s : Spot) →
+        r.from ≡ says a s → is_zero (val_of (of_names (names_of M (row_names V w k.lists r.given) (λ n. k.value))) a) ≡ b
+    value_zero r runs b q a s f =
+        ap is_zero (valued (names_of M (row_names V w k.lists r.given) (λ n. k.value)) a s (subst ValueNamed f runs.value) (λ n. refl))
+        ∙ zero_seen w b q
+
+    -- as many signatures and boxes as the row begins with
+    pub row_long : (r : JoinedRow) → RowRuns net w k.key e r → (length (terms_of (spot_of r.from).work) ≡ length k.lists.sigs)
+        × (length (spot_of r.from).boxes ≡ length k.lists.boxes)
+    row_long r runs =
+        let st = stands x t in
+        let channel : (spot_of r.from).channel ≡ channel_of (place_of x) =
+        sym (key_channel r.from) ∙ ap (λ (k : Key). k.channel) runs.place ∙ st.channel in (
+          sorts_long (spot_of r.from).work (work_at (place_of x))
+              (sym (key_marks r.from) ∙ ap (λ (k : Key). k.marks) runs.place ∙ st.marks)
+              ∙ sym (reads_long V.top M k.lists.sigs (signs_of (work_at (place_of x))) st.sigs),
+          deep_long net (spot_of r.from) (place_of x) runs.deep channel ((run 0).placed i x live)
+              ∙ sym (reads_long V.top M k.lists.boxes (boxes_at (place_of x)) st.boxes),
+        )
+
+    -- and the fork that it answers
+    pub row_forks : (r : JoinedRow) → RowRuns net w k.key e r → (q : Second) → r.way ≡ answers_fork q → ForkThere net q C.forks
+    row_forks r runs q way =
+        let g : ℕ → Pointer = row_names V w k.lists r.given in
+        let N : Names = names_of M g (λ n. k.value) in
+        let rd = reads x t in
+        let long = (row_long r runs).1 in
+        let lows : ((n : ℕ) → Low V.top (g n)) = names_low V M h.right w k r rd.0 rd.1.0 rd.1.1.0 rd.1.1.1 runs.sources in
+        let fit : token_in (of_names N) r.from ≡ x = token_fits V M h.right w k r net runs x t long in
+        let begun : IsNamed (of_names N) R.forks (alone r.from) R =
+        record { ticket = i; live = live ∙ ap (λ x. Some (i, x)) (sym fit); forks = refl; ready = (run 0).ready } in
+        let a = start_reached N R.forks net e r.from runs.start R runs.starts begun (value_zero r runs) in
+        let R0 : Registers = ticks net (test_moves e) R in
+        let led = plain net r.moves (alone runs.start) r.to runs.leads in
+        let j = joined_ticks net r.moves (alone runs.start) r.to led N R.forks R0 a.named in
+        let R1 : Registers = ticks net r.moves R0 in
+        let first : ticks net (test_moves e + r.moves) R ≡ R1 = ticks_add net (test_moves e) r.moves R in
+        fork_there net C M h.right k.value g lows (λ n. k.value) R.forks h.forks r.to R1 j.0 (h.result ∙ sym a.result ∙ sym j.2) h.ready
+        (subst (Meets net) first (run (test_moves e + r.moves))) q (subst (WayRuns net r.to) way runs.way)
+
     row_has : (r : JoinedRow) → RowRuns net w k.key e r → JoinedHas (ticks net (row_moves e r) R) (joined_row w e r k C)
     row_has r runs =
         let g : ℕ → Pointer = row_names V w k.lists r.given in
@@ -410,32 +521,15 @@ module _ (net : NetTree) (T : Table) (table : IsTable net T) (R : Registers) (C 
         let m1 : R1.moves ≡ R0.moves + r.moves = j.1 in
         let m2 : C.moves ≡ R.moves = h.moves in
         let D : JoinedCircuit = record C { moves = C.moves + row_moves e r } in
-        subst (λ S. JoinedHas S (ends r.way r.to g (amount_of (λ n. k.value)) D)) (sym whole)
-        (ends_has net D M h.right g lows (λ n. k.value) R.forks h.forks r.to R1 j.0 (h.result ∙ sym a.result ∙ sym j.2) h.ready
+        subst (λ S. JoinedHas S (ends r.way r.to g k.value (amount_of (λ n. k.value)) D)) (sym whole)
+        (ends_has net D M h.right k.value g lows (λ n. k.value) R.forks h.forks r.to R1 j.0 (h.result ∙ sym a.result ∙ sym j.2) h.ready
         (subst (Meets net) first (run (test_moves e + r.moves))) r.way runs.way (omega arith))
-      where
-        zero_seen : (w : Site) (b : Bool) → seen_at w k ≡ zero_is b → is_zero k.value ≡ b
-        zero_seen nowhere b e = absurd cc
-        zero_seen on_sigs b e = absurd cc
-        zero_seen on_boxes b e = absurd cc
-        zero_seen on_value b e = cc
-
-        valued : (N : Names) (a : Amount) (s : Spot) → ValueNamed (says a s) → ((n : ℕ) → N.vals n ≡ k.value) →
-            val_of (of_names N) a ≡ k.value
-        valued N (some n) s v q = q n
-        valued N a s v q = elim v [ ]
-
-        value_zero : (r : JoinedRow) → RowRuns net w k.key e r → (b : Bool) → e ≡ zero_is b → (a : Amount) (s : Spot) →
-            r.from ≡ says a s → is_zero (val_of (of_names (names_of M (row_names V w k.lists r.given) (λ n. k.value))) a) ≡ b
-        value_zero r runs b q a s f =
-            ap is_zero (valued (names_of M (row_names V w k.lists r.given) (λ n. k.value)) a s (subst ValueNamed f runs.value) (λ n. refl))
-            ∙ zero_seen w b q
 
     found_has : (o : Option JoinedRow) → T.row k.key e ≡ o → ((row_found w e o k C).full ≡ true) ⊎ Along (row_found w e o k C)
     found_has None q = inl refl
     found_has (Some r) q = inr (record {
       moves = row_moves e r;
-      counts = ends_moves r.way r.to (row_names V w k.lists r.given) (amount_of (λ n. k.value))
+      counts = ends_moves r.way r.to (row_names V w k.lists r.given) k.value (amount_of (λ n. k.value))
           (record C { moves = C.moves + row_moves e r });
       has = row_has r (row_runs net w k.key e r (table k.key e r q));
     })

@@ -34,26 +34,26 @@ abbrev pub Asked : Option JoinedToken → Option Val → Type 0
 Asked None r = (v : Val) × (r ≡ Some v)
 Asked (Some k) r = r ≡ None
 
-ends_asked : (way : Way) (Y : Named) (g : ℕ → Pointer) (v : Amount → Val) (D : JoinedCircuit) → D.result ≡ None → Asked D.live D.result →
-    Asked (ends way Y g v D).live (ends way Y g v D).result
-ends_asked onwards Y g v D r a = r
-ends_asked answers_run Y g v D r a = (value_of v Y.live, refl)
-ends_asked (answers_fork q) Y g v D r a = go D.forks
+ends_asked : (way : Way) (Y : Named) (g : ℕ → Pointer) (u : Val) (v : Amount → Val) (D : JoinedCircuit) → D.result ≡ None →
+    Asked D.live D.result → Asked (ends way Y g u v D).live (ends way Y g u v D).result
+ends_asked onwards Y g u v D r a = r
+ends_asked answers_run Y g u v D r a = (value_of u v Y.live, refl)
+ends_asked (answers_fork q) Y g u v D r a = go D.forks
   where
     go : (fs : List JoinedFork) →
-        Asked (meets_fork fs q (value_of v Y.live) D).live (meets_fork fs q (value_of v Y.live) D).result
+        Asked (meets_fork fs q u (value_of u v Y.live) D).live (meets_fork fs q u (value_of u v Y.live) D).result
     go [] = a
     go (f ∷ fs) = r
 
 module _ (T : Table) where
-  row_asked : (C : JoinedCircuit) → Asked C.live C.result → Asked (a_row T C).live (a_row T C).result
+  pub row_asked : (C : JoinedCircuit) → Asked C.live C.result → Asked (a_row T C).live (a_row T C).result
   row_asked C h = go C.full
     where
       found : (w : Site) (e : Seen) (o : Option JoinedRow) (k : JoinedToken) → C.live ≡ Some k →
           Asked (row_found w e o k C).live (row_found w e o k C).result
       found w e None k l = h
       found w e (Some r) k l =
-          ends_asked r.way r.to (row_names C.store w k.lists r.given) (amount_of (λ n. k.value))
+          ends_asked r.way r.to (row_names C.store w k.lists r.given) k.value (amount_of (λ n. k.value))
           (record C { moves = C.moves + row_moves e r }) (subst (λ l. Asked l C.result) l h) h
 
       on : (l : Option JoinedToken) → C.live ≡ l → Asked (row_on T l C).live (row_on T l C).result
@@ -64,16 +64,16 @@ module _ (T : Table) where
       go true = h
       go false = on C.live refl
 
-  many_asked : (k : ℕ) (C : JoinedCircuit) → Asked C.live C.result → Asked (many_rows T k C).live (many_rows T k C).result
+  pub many_asked : (k : ℕ) (C : JoinedCircuit) → Asked C.live C.result → Asked (many_rows T k C).live (many_rows T k C).result
   many_asked zero C h = h
   many_asked (suc k) C h = many_asked k (a_row T C) (row_asked C h)
 
-  full_rows : (k : ℕ) (C : JoinedCircuit) → C.full ≡ true → (many_rows T k C).full ≡ true
+  pub full_rows : (k : ℕ) (C : JoinedCircuit) → C.full ≡ true → (many_rows T k C).full ≡ true
   full_rows zero C e = e
   full_rows (suc k) C e = full_rows k (a_row T C) (ap (λ b. (cond b C (row_on T C.live C)).full) e ∙ e)
 
   -- without a token nothing goes on
-  rests : (k : ℕ) (C : JoinedCircuit) → C.live ≡ None → many_rows T k C ≡ C
+  pub rests : (k : ℕ) (C : JoinedCircuit) → C.live ≡ None → many_rows T k C ≡ C
   rests zero C e = refl
   rests (suc k) C e = ap (many_rows T k) same ∙ rests k C e
     where
@@ -91,7 +91,7 @@ module _ (T : Table) where
       absurd cc
 
   -- the rows up to an answer
-  made_more : (k n : ℕ) (C : JoinedCircuit) (l : JoinedToken) → (many_rows T k C).live ≡ Some l → k < n → k < rows_made T n C
+  pub made_more : (k n : ℕ) (C : JoinedCircuit) (l : JoinedToken) → (many_rows T k C).live ≡ Some l → k < n → k < rows_made T n C
   made_more k zero C l e h = let no : ⊥ = omega arith in absurd no
   made_more zero (suc n) C l e h = let m = ap (λ l. one_more l (rows_made T n (a_row T C))) e in omega arith
   made_more (suc k) (suc n) C l e h = go (made_more k n (a_row T C) l e (omega arith)) C.live refl
@@ -100,7 +100,7 @@ module _ (T : Table) where
       go i None f = was_there (suc k) C l e f
       go i (Some c) f = let m = ap (λ l. one_more l (rows_made T n (a_row T C))) f in omega arith
 
-  made_less : (k n : ℕ) (C : JoinedCircuit) → (many_rows T k C).live ≡ None → rows_made T n C ≤ k
+  pub made_less : (k n : ℕ) (C : JoinedCircuit) → (many_rows T k C).live ≡ None → rows_made T n C ≤ k
   made_less k zero C e = omega arith
   made_less zero (suc n) C e = let m = ap (λ l. one_more l (rows_made T n (a_row T C))) e in omega arith
   made_less (suc k) (suc n) C e = go (made_less k n (a_row T C) e) C.live refl
@@ -125,7 +125,7 @@ module _ (T : Table) where
         found (Some r) q h =
             let runs : RowRuns net w c.key s r = row_runs net w c.key s r (table c.key s r q) in
             let goes : 0 < row_moves s r = ltb-true 0 (row_moves s r) runs.goes in
-            let m = ends_moves r.way r.to (row_names C.store w c.lists r.given) (amount_of (λ n. c.value))
+            let m = ends_moves r.way r.to (row_names C.store w c.lists r.given) c.value (amount_of (λ n. c.value))
             (record C { moves = C.moves + row_moves s r }) in
             omega arith
 

@@ -27,7 +27,7 @@ pub record JoinedToken : Type 0 where
 -- an open fork: its boxes, its left answer once that came, and the cells in use when it was opened
 pub record JoinedFork : Type 0 where
   pub boxes : List Pointer
-  pub answered : Val
+  pub answered : Option Val
   pub top : ℕ
 
 pub record JoinedCircuit : Type 0 where
@@ -61,12 +61,12 @@ seen_at on_sigs k = shaped (pointer_at k.lists.sigs 0).shape
 seen_at on_boxes k = shaped (pointer_at k.lists.boxes 0).shape
 seen_at on_value k = zero_is (is_zero k.value)
 
--- a name's pointer
+-- a name's pointer; a shape without names has no cell, and its place is that of the next one
 abbrev pub source_of : Store → Pointer → Lists → Source → Pointer
 source_of V p k (a_sig i) = pointer_at k.sigs i
 source_of V p k (a_box i) = pointer_at k.boxes i
 source_of V p k (a_word i) = V.words p.place i
-source_of V p k (a_part x) = point x p.place
+source_of V p k (a_part x) = point x (if has_name x then p.place else V.top)
 
 abbrev pub row_names : Store → Site → Lists → List Source → ℕ → Pointer
 row_names V w k gs n = source_of V (looked_at w k) k (given_at gs n)
@@ -96,10 +96,10 @@ makes_cell Y = any_new (terms_of (spot_of Y.live).work) || (any_new (spot_of Y.l
 abbrev pub top_by : Bool → ℕ → ℕ
 top_by b n = if b then suc n else n
 
--- its left answer; before that came it is anything
-abbrev pub half_answer : (Amount → Val) → NamedHalf → Val
-half_answer v (waiting q) = Number 0
-half_answer v (left a) = v a
+-- its left answer, once that came
+abbrev pub half_answer : (Amount → Val) → NamedHalf → Option Val
+half_answer v (waiting q) = None
+half_answer v (left a) = Some (v a)
 
 -- the forks that the row leaves open, inside of those around
 abbrev pub forks_on : (ℕ → Pointer) → ℕ → (Amount → Val) → List NamedFork → List JoinedFork → List JoinedFork
@@ -110,19 +110,19 @@ forks_on g n v (f ∷ fs) around = record {
   top = top_by (forks_new (f ∷ fs)) n;
 } ∷ forks_on g n v fs around
 
--- the value of an answer; of a question it says nothing
-abbrev pub value_of : (Amount → Val) → Walker → Val
-value_of v (asks s) = Number 0
-value_of v (says a s) = v a
+-- the value of an answer; a question keeps the value that was there
+abbrev pub value_of : Val → (Amount → Val) → Walker → Val
+value_of u v (asks s) = u
+value_of u v (says a s) = v a
 
 -- what values' names stand for
 abbrev pub amount_of : (ℕ → Val) → Amount → Val
 amount_of vs a = val_of (of_names (record { sigs = λ n. star; vals = vs })) a
 
--- the token after a row
-abbrev pub token_on : (ℕ → Pointer) → ℕ → (Amount → Val) → Walker → JoinedToken
-token_on g n v x = record {
-  value = value_of v x;
+-- the token after a row, where u was the value
+abbrev pub token_on : (ℕ → Pointer) → ℕ → Val → (Amount → Val) → Walker → JoinedToken
+token_on g n u v x = record {
+  value = value_of u v x;
   key = key_of x;
   lists = record { sigs = pointers_for g n (terms_of (spot_of x).work); boxes = pointers_for g n (spot_of x).boxes };
 }
@@ -137,17 +137,21 @@ abbrev pub stored : Bool → Store → (ℕ → Pointer) → Store
 stored b V g = if b then with_cell V (two_words g) else V
 
 -- the registers after a row that ends there
-abbrev pub lands : Named → Store → (ℕ → Pointer) → (Amount → Val) → List JoinedFork → JoinedCircuit → JoinedCircuit
-lands Y V g v around C = record C {
-  live = Some (token_on g V.top v Y.live);
+abbrev pub lands : Named → Store → (ℕ → Pointer) → Val → (Amount → Val) → List JoinedFork → JoinedCircuit → JoinedCircuit
+lands Y V g u v around C = record C {
+  live = Some (token_on g V.top u v Y.live);
   forks = forks_on g V.top v Y.forks around;
   store = stored (makes_cell Y) V g;
 }
 
 -- value 0 is the answer that came, and any other the left one
-abbrev pub two_values : Val → Val → ℕ → Val
-two_values a u zero = a
-two_values a u (suc n) = u
+abbrev pub left_answer : Option Val → Val
+left_answer None = Number 0
+left_answer (Some v) = v
+
+abbrev pub two_values : Val → Option Val → ℕ → Val
+two_values a o zero = a
+two_values a o (suc n) = left_answer o
 
 -- the pointers of a fork's names
 abbrev pub fork_lists : JoinedFork → Lists
@@ -156,21 +160,22 @@ fork_lists f = record { sigs = []; boxes = f.boxes }
 abbrev pub fork_names : Store → Second → JoinedFork → ℕ → Pointer
 fork_names V q f = row_names V nowhere (fork_lists f) q.given
 
--- an answer at the innermost fork
-abbrev pub meets_fork : List JoinedFork → Second → Val → JoinedCircuit → JoinedCircuit
-meets_fork [] q a C = stuck C
-meets_fork (f ∷ fs) q a C =
-    lands q.to (back_to C.store f.top) (fork_names (back_to C.store f.top) q f) (amount_of (two_values a f.answered)) fs C
+-- an answer at the innermost fork, where u was the value
+abbrev pub meets_fork : List JoinedFork → Second → Val → Val → JoinedCircuit → JoinedCircuit
+meets_fork [] q u a C = stuck C
+meets_fork (f ∷ fs) q u a C =
+    lands q.to (back_to C.store f.top) (fork_names (back_to C.store f.top) q f) u (amount_of (two_values a f.answered)) fs C
 
 -- how the row ends
-abbrev pub ends : Way → Named → (ℕ → Pointer) → (Amount → Val) → JoinedCircuit → JoinedCircuit
-ends onwards Y g v C = lands Y C.store g v C.forks C
-ends answers_run Y g v C = record C { live = None; result = Some (value_of v Y.live) }
-ends (answers_fork q) Y g v C = meets_fork C.forks q (value_of v Y.live) C
+abbrev pub ends : Way → Named → (ℕ → Pointer) → Val → (Amount → Val) → JoinedCircuit → JoinedCircuit
+ends onwards Y g u v C = lands Y C.store g u v C.forks C
+ends answers_run Y g u v C = record C { live = None; result = Some (value_of u v Y.live) }
+ends (answers_fork q) Y g u v C = meets_fork C.forks q u (value_of u v Y.live) C
 
 abbrev pub joined_row : Site → Seen → JoinedRow → JoinedToken → JoinedCircuit → JoinedCircuit
 joined_row w e r k C =
-    ends r.way r.to (row_names C.store w k.lists r.given) (amount_of (λ n. k.value)) (record C { moves = C.moves + row_moves e r })
+    ends r.way r.to (row_names C.store w k.lists r.given) k.value (amount_of (λ n. k.value))
+    (record C { moves = C.moves + row_moves e r })
 
 abbrev pub row_found : Site → Seen → Option JoinedRow → JoinedToken → JoinedCircuit → JoinedCircuit
 row_found w e None k C = stuck C

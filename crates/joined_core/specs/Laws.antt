@@ -24,7 +24,7 @@ pub record StandsAt (n : ℕ) (M : Account) (p : Place) (k : JoinedToken) : Type
   pub sigs : AllRead n M k.lists.sigs (signs_of (work_at p))
   pub boxes : AllRead n M k.lists.boxes (boxes_at p)
 
--- they are those of a token: a question's value is anything
+-- they are those of a token; what value a question keeps isn't asked
 abbrev pub IsToken : ℕ → Account → TokenTree → JoinedToken → Type 0
 IsToken n M (ask p) k = (k.key.answers ≡ false) × StandsAt n M p k
 IsToken n M (ans v p) k = (k.key.answers ≡ true) × (k.value ≡ v) × StandsAt n M p k
@@ -38,7 +38,7 @@ IsLive n M (Some c) (Some k) = IsToken n M c.1 k
 -- a fork has its left answer
 abbrev pub IsHalf : Half → JoinedFork → Type 0
 IsHalf (waits j p) g = Unit {0}
-IsHalf (came v) g = g.answered ≡ v
+IsHalf (came v) g = g.answered ≡ Some v
 
 -- and its boxes, among the cells in use when it was opened
 pub record IsFork (n : ℕ) (M : Account) (f : OpenFork) (g : JoinedFork) : Type 0 where

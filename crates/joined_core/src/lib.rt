@@ -9,6 +9,7 @@
 mod laws;
 
 pub use laws::{
-    law_example_recursive, law_example_table, law_joined_follow, law_joined_means, law_joined_room,
-    law_joined_step, law_joined_time, law_key_numbers, law_listed_table,
+    law_example_recursive, law_example_table, law_joined_follow, law_joined_means,
+    law_joined_memory, law_joined_room, law_joined_step, law_joined_time, law_key_numbers,
+    law_listed_table,
 };
