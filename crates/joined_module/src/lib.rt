@@ -1,0 +1,2 @@
+//! The module of joined rows; no code.
+#![tactic(auto)]
