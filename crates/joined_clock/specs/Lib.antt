@@ -1,0 +1,2 @@
+-- The statement of `law_clock_parts`.
+pub mod Laws
