@@ -1,0 +1,2 @@
+-- Rows with their waits go along with the rows.
+pub mod Laws
