@@ -1,0 +1,2 @@
+-- What its module tells.
+pub mod Laws
