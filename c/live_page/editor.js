@@ -59,11 +59,15 @@ function putText(name, text) {
   unmark(name);
 }
 
-// The box of the program is as high as its text, up to a quarter of the window; a hand can make it another height.
+// The box of the program is as high as its text, up to a quarter of the window; in a low one less, so that what is said of a move and the
+// stacks have their room below. A hand can make it another height.
+const BOX = { share: 0.26, most: 112, least: 76, below: 570 };
 function fitBox() {
   const box = boxOf("own");
   box.style.height = "auto";
-  box.style.height = Math.min(box.scrollHeight, Math.max(112, innerHeight * 0.26)) + "px";
+  const share = innerHeight * BOX.share;
+  const most = narrow.matches ? Math.max(BOX.most, share) : Math.max(BOX.least, Math.min(share, innerHeight - BOX.below));
+  box.style.height = Math.min(box.scrollHeight, most) + "px";
 }
 
 function putProgram(text) {
