@@ -40,18 +40,22 @@ function tellMoveInPanel(move) {
   const button = ticketButton(move.ticket, moveColour(move), "ticket " + move.ticket);
   const who = element("div", {}, button, `${worker}${what} at node ${move.node}`);
   const parts = [element("div", { class: "title" }, rule.title), who, element("p", {}, rule.say)];
-  if (rule.from) {
-    const arrow = element("span", { role: "img", "aria-label": "becomes" }, "→");
-    parts.push(element("div", { class: "rule" }, rulePlace(rule.from, move.before), arrow, rulePlace(rule.to, move.after),
-      ruleInstance(rule, move)));
-  }
   if (move.kind === "answer") parts.push(element("p", {}, element("b", {}, "value " + move.value)));
   byId("say").replaceChildren(...parts);
+  tellRow(rule, move);
   tellStacks(move.before, move.after || move.before, view.questions.given[move.number - view.run.first]);
+}
+
+// The row of the table that was applied, and what its letters stand for.
+function tellRow(rule, move) {
+  const arrow = element("span", { role: "img", "aria-label": "becomes" }, "→");
+  byId("row").replaceChildren(...rule.from ? [element("div", { class: "rule" }, rulePlace(rule.from, move.before), arrow,
+    rulePlace(rule.to, move.after), ruleInstance(rule, move))] : []);
 }
 
 function tellStart() {
   const shown = shownToken();
+  byId("row").replaceChildren();
   const { first } = view.run;
   const title = element("div", { class: "title" }, first === 0 ? "The run begins" : "The part from move " + first + " on");
   if (!shown) {
@@ -113,11 +117,18 @@ function tellStacks(before, after, whole) {
   stacksInSight();
 }
 
-// Where the left column is higher than the window, the stacks are in sight.
+// Where the left column is higher than the window, the stacks are in sight, and the first line of what is said of the move stays. (Where
+// somebody has scrolled past the stacks the column is left alone.)
 function stacksInSight() {
   const left = byId("left");
-  const over = byId("stacks").getBoundingClientRect().bottom - left.getBoundingClientRect().bottom;
-  if (over > 0 && left.scrollHeight > left.clientHeight) left.scrollTop += over + 8;
+  if (left.scrollHeight <= left.clientHeight) return;
+  const place = it => it.getBoundingClientRect().top - left.getBoundingClientRect().top + left.scrollTop;
+  const stacks = byId("stacks");
+  const first = byId("say").firstElementChild;
+  if (!first || stacks.offsetHeight === 0) return;
+  const wanted = Math.max(0, Math.min(place(stacks) + stacks.offsetHeight + 8 - left.clientHeight, place(first) - 4));
+  const isPast = left.scrollTop > wanted && place(first) < left.scrollTop && place(stacks) > left.scrollTop;
+  if (left.scrollTop < wanted || isPast) left.scrollTop = wanted;
 }
 
 // The parts of a stack that the trace has, and how many there are with those that it leaves out.
