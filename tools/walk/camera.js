@@ -12,7 +12,7 @@ const SCALES = { least: 0.002, most: 4, texts: 0.42, legible: 0.56, close: 0.85,
 const WALL_SHARES = { high: 1 / 36, wide: 1 / 21 };
 const wallScale = () => Math.min(innerHeight * WALL_SHARES.high, innerWidth * WALL_SHARES.wide) / WALL_SIZES.text;
 // What the buttons above take of the picture, and what is left free at its sides and around the legend below.
-const RIMS = { above: 44, side: 24, legend: 13 };
+const RIMS = { above: 44, side: 24, legend: 13, wall: 6 };
 
 function pictureSize() {
   const { width, height } = byId("picture").getBoundingClientRect();
@@ -26,8 +26,12 @@ function applyCamera() {
   drawing.root.setAttribute("transform", `translate(${camera.x.toFixed(2)} ${camera.y.toFixed(2)}) scale(${camera.scale.toFixed(4)})`);
   byId("picture").classList.toggle("far", camera.scale < SCALES.texts);
   drawNear();
+  tellFollow();
   if (!playing.motion) drawMap();
 }
+
+// Where the picture has the whole net there is nothing to follow, and the button isn't lit.
+function tellFollow() { byId("follow").disabled = isWhole(); }
 
 function centre(x, y) {
   const { width, height } = pictureSize();
@@ -36,16 +40,39 @@ function centre(x, y) {
   applyCamera();
 }
 
-// The whole net.
+// The bounds of the net with what is put beside its nodes along the run: at the left of an operator what its fork keeps, at the right of
+// Root the answer.
+function wholeBounds() {
+  const bounds = { ...view.layout.bounds };
+  const { entry, glyph } = sizesNow();
+  for (const { id, name } of view.net.nodes) {
+    const { x, width } = view.layout.places[id];
+    if (FORKING.has(name)) bounds.left = Math.min(bounds.left, x - width / 2 - 3 - (14 + 6 * entry) * glyph);
+    if (name === "Root") bounds.right = Math.max(bounds.right, x + width / 2 + 10 + answerWidth(view.run.trace.value ?? "") * glyph);
+  }
+  return bounds;
+}
+const FORKING = new Set(["Plus", "Minus", "Times"]);
+
+// The whole net, with some room at its sides. On the wall the letters have that room.
 function showAll() {
   const { width, height } = pictureSize();
-  const { left, right, top, bottom } = view.layout.bounds;
+  const { left, right, top, bottom } = view.wall ? wholeBounds() : view.layout.bounds;
   const below = rimBelow();
   const above = byId("fit").offsetParent ? RIMS.above : RIMS.legend;
   const most = view.wall ? SCALES.wallWhole : SCALES.whole;
-  const scale = Math.min(width / (right - left + 120), (height - above - below) / (bottom - top + 14), most);
+  const byX = view.wall ? (width - 2 * RIMS.wall) / (right - left) : width / (right - left + 120);
+  const scale = Math.min(byX, (height - above - below) / (bottom - top + 14), most);
   camera.scale = Math.max(scale, SCALES.least);
   centre((left + right) / 2, (top + bottom) / 2 + (below - above) / 2 / camera.scale);
+}
+
+// Whether the picture has the whole net.
+function isWhole() {
+  const { width, height } = pictureSize();
+  const { left, right, top, bottom } = view.layout.bounds;
+  const within = (low, high, at, size) => low * camera.scale + at > -1 && high * camera.scale + at < size + 1;
+  return within(left, right, camera.x, width) && within(top, bottom, camera.y, height);
 }
 
 // The whole net where it is legible so, and on a tour; else the token at a legible size.
@@ -79,7 +106,7 @@ function gathered(width, height) {
 
 // For a wall: has the live tokens in the window, as many as there is room for at a legible size.
 function gather() {
-  if (!view.wall || !view.follow) return;
+  if (!view.wall || !view.follow || isWhole()) return;
   const { width, height } = pictureSize();
   const room = height - RIMS.above - RIMS.legend;
   const { left, right, top, bottom } = gathered(width / wallScale(), room / wallScale());
@@ -102,7 +129,7 @@ function gather() {
 function withinNet(x, y) {
   const { width, height } = pictureSize();
   const { left, right, top, bottom } = view.layout.bounds;
-  const above = width < MAP.least ? RIMS.above : mapMeasure().height + 24;
+  const above = width < mapLeast() ? RIMS.above : mapTop() + mapMeasure().height + 14;
   const within = (at, low, high, size, before, after) => {
     const most = before - low * camera.scale;
     const least = size - after - high * camera.scale;
@@ -122,7 +149,7 @@ function focusPoint() {
 // Moves only as far as is needed to have a point well inside the picture, or near its edge where the net ends there; `share` is how much
 // of that at once.
 function follow(point, share) {
-  if (!view.follow) return;
+  if (!view.follow || isWhole()) return;
   const { width, height } = pictureSize();
   const { left, right, top, bottom } = view.layout.bounds;
   const off = (place, size) => {
@@ -154,7 +181,7 @@ function covers() {
 // looked at, and the node of the move.
 const UNCOVER = { steps: [0, -50, 50, -100, 100, -160, 160, -220, 220], rim: 24, most: 60 };
 function uncover() {
-  if (!view.follow || playing.motion || tour.at >= 0) return;
+  if (!view.follow || playing.motion || tour.at >= 0 || (view.wall && isWhole())) return;
   const boxes = covers();
   const { width, height } = pictureSize();
   const focus = focusPoint();

@@ -33,21 +33,27 @@ function shortStack(stack, room) {
   return text.length > room ? text.slice(0, room - 1) + "…" : text;
 }
 
-// Of some places beside a point the one where a card hides the least: tokens before nodes before texts and wires.
+// Of some places beside a point the one where a card hides the least: tokens before nodes before texts and wires. One that isn't whole in the
+// window is worse than one that hides two nodes.
+const CARD_OUTSIDE = 12000;
 function freeSpot(point, width) {
   const hidden = nearThings(point, width);
   const height = cardHeight();
   const size = pictureSize();
   let best = null;
-  for (const away of [26, 60, 110, 170]) for (const up of [-18, -50, 14, -84, 46, -120, 90]) for (const left of [0, 1]) {
-    const x = left ? point.x - away - width : point.x + away;
+  // (In a narrow window it may be above or below the token, as far to the side as the window wants.)
+  const [least, most] = [(6 - camera.x) / camera.scale, (size.width - 6 - camera.x) / camera.scale - width];
+  const within = x => Math.max(least, Math.min(most, x));
+  const heights = away => away ? [-18, -50, 14, -84, 46, -120, 90] : [-18 - height - 18 * glyphScale(), 24 * glyphScale(), -120, 46, 90];
+  for (const away of [26, 60, 110, 170, 0]) for (const up of heights(away)) for (const left of away ? [0, 1] : [0]) {
+    const x = away === 0 ? within(point.x - width / 2) : left ? point.x - away - width : point.x + away;
     const y = point.y + up;
-    let cost = away * 1.2 + Math.abs(up + 18) * 1.2 + left * 4;
+    let cost = (away || 90) * 1.2 + Math.abs(up + 18) * 1.2 + left * 4;
     const screenX = x * camera.scale + camera.x;
     const screenY = y * camera.scale + camera.y;
     const outside = screenX < 6 || screenY < 6 || screenX + width * camera.scale > size.width - 6 ||
       screenY + height * camera.scale > size.height - 6;
-    if (outside) cost += 4000;
+    if (outside) cost += CARD_OUTSIDE;
     for (const thing of hidden) {
       const overX = Math.min(x + width, thing.right) - Math.max(x, thing.left);
       const overY = Math.min(y + height, thing.bottom) - Math.max(y, thing.top);

@@ -220,7 +220,8 @@ function joinHands() {
   addEventListener("beforeprint", beginSheet);
   addEventListener("afterprint", endSheet);
   addEventListener("hashchange", () => { if (view.run) goToAddress(); });
-  new ResizeObserver(() => {
+  // (A form below the picture takes of its room where the net as a whole stays as it is.)
+  const sized = new ResizeObserver(() => {
     if (!view.run) return;
     forgetStrip();
     forgetMap();
@@ -229,7 +230,8 @@ function joinHands() {
     if (!camera.moved) showHome(); else applyCamera();
     drawCard();
     if (view.wall) tellWaiting();
-  }).observe(byId("net"));
+  });
+  for (const id of ["net", "picture"]) sized.observe(byId(id));
   new ResizeObserver(stacksInSight).observe(byId("left"));
   joinRows(byId("waiting"), markWaiting);
   joinRows(byId("round-moves"));

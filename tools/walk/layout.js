@@ -13,8 +13,9 @@ const WALL_SIZES = {
   ...SIZES, apart: 44, partsApart: 48, lane: 34, least: 82, most: 116, base: 62, text: 17, letter: 10.9, sign: 11.5, label: 16, gap: 6,
   glyph: 1.4, entry: 7.6, mono: 10.4, line: 21,
 };
-// The same where each node has its rule.
-const [RULE_SIZES, RULE_WALL_SIZES] = [SIZES, WALL_SIZES].map(sizes => ({ ...sizes, rules: true }));
+// The same where each node has its rule: a word wants more room than a sign, and so there is less between nodes.
+const RULE_SIZES = { ...SIZES, rules: true };
+const RULE_WALL_SIZES = { ...WALL_SIZES, rules: true, apart: 26, partsApart: 34, framePad: 14 };
 
 const SIGNS = {
   Plus: "+", Minus: "−", Times: "×", Succ: "succ", Pred: "pred", Ifz: "ifz", Lam: "λ", App: "@", Fst: "fst", Snd: "snd", Pair: "( , )",
@@ -25,11 +26,15 @@ const signOf = node => node.name === "Const" ? node.value : SIGNS[node.name] || 
 // What is written in a node: its sign, or where rules are shown its rule.
 const nodeText = (node, sizes) => sizes.rules && RULES[node.name] || signOf(node);
 
+// How wide a word is, in the size of its letters; it is narrower than as many signs.
+const wordWidth = word => [...word].reduce((sum, letter) => sum + (/[ijl]/.test(letter) ? 0.29 : /[rt]/.test(letter) ? 0.42
+  : /[mw]/.test(letter) ? 0.98 : 0.64), 0);
+
 function nodeWidth(node, sizes) {
   const text = nodeText(node, sizes);
-  // (A word is narrower than as many signs.)
-  const letters = text.length * (text.length > 6 ? 0.84 : 1) + String(node.id).length * 0.8 + 0.8;
-  return Math.max(node.up.length > 1 || node.down.length > 1 ? 50 : 40, Math.round(letters * sizes.sign + 14));
+  const wide = text.length > 6 ? wordWidth(text) * sizes.text : text.length * sizes.sign;
+  const number = (String(node.id).length * 0.8 + 0.8) * sizes.sign;
+  return Math.max(node.up.length > 1 || node.down.length > 1 ? 50 : 40, Math.round(wide + number + 14));
 }
 
 // How far right of its node's middle a wire leaves it.

@@ -1,6 +1,6 @@
 // The whole net in small, with all tokens and what the picture shows, where the picture shows only a part.
 
-const MAP = { width: 210, height: 130, narrow: 0.7, rim: 4, tokens: 400, least: 560 };
+const MAP = { width: 210, height: 130, narrow: 0.7, rim: 4, tokens: 400, least: 560, wallLeast: 480, top: 10 };
 let mapGround = null;
 
 function forgetMap() { mapGround = null; }
@@ -20,13 +20,24 @@ function mapMeasure() {
   };
 }
 
+// (On a wall the map is worth its room in a narrower picture.)
+const mapLeast = () => view.wall ? MAP.wallLeast : MAP.least;
+
+// Where there is no room beside the buttons the map is below them.
+function mapTop() {
+  const tools = document.querySelector("#net .tools");
+  return mapMeasure().width + 20 < tools.offsetLeft ? MAP.top : tools.offsetTop + tools.offsetHeight + 6;
+}
+
 function drawMap() {
   const canvas = byId("map");
   const size = pictureSize();
   const { left, right, top, bottom } = view.layout.bounds;
-  const fits = (right - left) * camera.scale < size.width * 1.15 && (bottom - top) * camera.scale < size.height * 1.15;
-  canvas.hidden = size.width < MAP.least || fits;
+  const fits = isWhole() || (!view.wall && (right - left) * camera.scale < size.width * 1.15 &&
+    (bottom - top) * camera.scale < size.height * 1.15);
+  canvas.hidden = size.width < mapLeast() || fits;
   if (canvas.hidden) return;
+  canvas.style.top = mapTop() + "px";
   const measure = mapMeasure();
   if (!mapGround) mapGround = drawMapGround(measure);
   canvas.style.width = measure.width + "px";

@@ -35,7 +35,7 @@ window.walk = {
   view, camera, playing, drawing, keys: KEYS, show: jump, showAll, zoom, shownRange, goOther, setSpeed, setTypes, setTheme, setColourBy,
   openFiles, openWalk, goToAddress, saveFile, readNet, readTerm, namesIn, ruleOf, pictureText, whyNoSwap, swappedSchedule,
   spelled, marksIn, waitingRows, waitingTitle, chainOfMark, textOf, programText, termText,
-  setRounds, inRounds, setWall, stripMarks, Reordered, replayed, scheduleText, readTrace, traceHead, Run,
+  setRounds, inRounds, setWall, setRules, stripMarks, Reordered, replayed, scheduleText, readTrace, traceHead, Run,
   putRows, activeRow, activateRow, joinRows, setProgramHome, fileStem, beside, guess, putSteps, steps, stepVisits, visitsOf,
 };
 start();

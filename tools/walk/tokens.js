@@ -189,6 +189,8 @@ function drawEntries(open) {
   }
 }
 
+const answerWidth = answer => 20 + ("value " + answer).length * 7.6;
+
 function drawAnswer(answer) {
   if (answer === null || answerSign) {
     if (answerSign && answer === null) { answerSign.remove(); answerSign = null; }
@@ -197,7 +199,7 @@ function drawAnswer(answer) {
   const root = view.net.nodes.find(node => node.name === "Root");
   const { x, y, width: beside } = view.layout.places[root.id];
   const text = "value " + answer;
-  const width = 20 + text.length * 7.6;
+  const width = answerWidth(answer);
   answerSign = shape("g", { class: "answer", transform: placed(x + beside / 2 + 10 + width / 2 * glyphScale(), y) },
     shape("rect", { x: -width / 2, y: -13, width, height: 26, rx: 5 }), shape("text", { y: 4.5 }, text));
   drawing.layers.entries.append(answerSign);

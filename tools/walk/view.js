@@ -46,7 +46,10 @@ const view = {
   moved: () => {},
 };
 
-const sizesNow = () => view.rules ? (view.wall ? RULE_WALL_SIZES : RULE_SIZES) : view.wall ? WALL_SIZES : SIZES;
+function sizesNow() {
+  if (view.rules && view.wall) return view.types ? { ...WALL_SIZES, rules: true } : RULE_WALL_SIZES;
+  return view.rules ? RULE_SIZES : view.wall ? WALL_SIZES : SIZES;
+}
 
 const COLOURS = 8;
 const COLOURED_BY = ["ticket", "worker", "call"];
