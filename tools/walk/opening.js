@@ -20,7 +20,8 @@ function openWalk({ name, file, program, net: netText, trace: traceText, steps: 
   drawProgram(term);
   Object.assign(view, { alone: { run, questions }, together: null, rounds: null, told: null });
   tellWay();
-  byId("summary").textContent = summaryText();
+  const [first, ...more] = summaryParts();
+  byId("summary").replaceChildren(first, ...more.length > 0 ? [element("span", { class: "more" }, " · " + more.join(" · "))] : []);
   forgetChain();
   drawNet();
   tellWires();
@@ -38,7 +39,8 @@ function tellWires() {
   byId("wires-heard").replaceChildren(...net.wires.slice(0, WIRES_HEARD).map(wire => element("li", {}, wireWords(wire, net))));
 }
 
-function summaryText() {
+// (In a narrow window there is room for the first of them alone.)
+function summaryParts() {
   const { run, net } = view;
   const { value, moves, lines } = run.trace;
   const many = (count, what) => count + " " + what + (count === 1 ? "" : "s");
@@ -50,7 +52,7 @@ function summaryText() {
     parts[0] += most > 1 ? ` in ${many(rounds, "round")} of at most ${most}` : "";
   }
   if (run.workers > 1) parts.push(many(run.workers, "worker"));
-  return parts.join(" · ");
+  return parts;
 }
 
 // A trace alone is shown on the net that is open.
