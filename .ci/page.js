@@ -352,22 +352,124 @@ function smallestLetter(at) {
   return Math.min(...seen.map(it => parseFloat(getComputedStyle(it).fontSize) * it.getScreenCTM().d));
 }
 
+// The least that a letter of the wall may have.
+const leastLetter = () => Math.min(innerHeight / 36, innerWidth / 21) - 0.1;
+
+// Where the sentence is below the net, the picture is as high as it leaves room, and is laid out anew a little later.
+const settled = () => innerHeight > innerWidth ? new Promise(done => requestAnimationFrame(() => requestAnimationFrame(() => setTimeout(done, 20)))) : null;
+
+const rectOf = it => it.getBoundingClientRect();
+const areMet = (one, two) => Math.min(one.right, two.right) - Math.max(one.left, two.left) > 1.5 &&
+  Math.min(one.bottom, two.bottom) - Math.max(one.top, two.top) > 1.5;
+const isWithin = (one, two) => one.left >= two.left - 1 && one.right <= two.right + 1 && one.top >= two.top - 1 && one.bottom <= two.bottom + 1;
+const isSeen = it => it.getClientRects().length > 0 && getComputedStyle(it).visibility === "visible";
+
+// What hides a part of the net behind so many moves, and whether the picture has less than half of the window.
+function pictureFaults(places) {
+  const wrong = [];
+  for (const at of places) {
+    walk.show(at);
+    const [picture, footer] = [byId("picture"), document.querySelector("footer")].map(rectOf);
+    if (picture.bottom > footer.top + 2) wrong.push(`${at}: the footer hides ${Math.round(picture.bottom - footer.top)} px`);
+    const share = picture.width * (Math.min(picture.bottom, footer.top) - picture.top) / innerWidth / innerHeight;
+    if (share < 0.5) wrong.push(`${at}: ${share.toFixed(2)} of the window`);
+  }
+  return wrong;
+}
+
+// Controls that meet, that are outside of the window, or whose words are cut off, of those that always are in sight.
+function controlFaults() {
+  const wrong = [];
+  const all = [...document.querySelectorAll("header > button, header h1, #summary, .tools button, footer :is(button, input, select, label), #map, #own-head button")]
+    .filter(it => isSeen(it) && it.id !== "files");
+  all.forEach((it, place) => {
+    const name = it.id || it.textContent.trim();
+    const box = rectOf(it);
+    if (box.left < -0.5 || box.right > innerWidth + 0.5 || box.top < -0.5 || box.bottom > innerHeight + 0.5) wrong.push(`outside: ${name}`);
+    if (it.closest(".tools") && !isWithin(box, rectOf(byId("net")))) wrong.push(`outside of the picture: ${name}`);
+    if (it.scrollWidth > it.clientWidth + 1 && !it.matches("input, select")) wrong.push(`cut off: ${name}`);
+    for (const other of all.slice(place + 1)) {
+      if (!it.contains(other) && !other.contains(it) && areMet(box, rectOf(other))) wrong.push(`${name} meets ${other.id || other.textContent.trim()}`);
+    }
+  });
+  return wrong;
+}
+
+// The card beside the token that is told, where it isn't whole in the picture, or is below something.
+function cardFaults(places) {
+  const wrong = [];
+  for (const at of places) {
+    walk.show(at);
+    const card = document.querySelector("#picture .card");
+    if (!card) continue;
+    const footer = rectOf(document.querySelector("footer"));
+    const picture = rectOf(byId("picture"));
+    const room = { left: picture.left, right: picture.right, top: picture.top, bottom: footer.left > picture.left + 1 ? picture.bottom : Math.min(picture.bottom, footer.top) };
+    const covers = [...document.querySelectorAll("#net .tools, #map, #chain")].filter(isSeen).map(rectOf);
+    if (!isWithin(rectOf(card), room)) wrong.push(`${at}: the card is cut off`);
+    if (covers.some(it => areMet(it, rectOf(card)))) wrong.push(`${at}: the card is covered`);
+  }
+  return wrong;
+}
+
+// Buttons beside the picture that are lit though a press on them changes nothing of it, behind so many moves.
+function litFaults(places) {
+  const seen = () => places.map(at => {
+    walk.show(at);
+    return byId("picture").innerHTML;
+  }).join();
+  const lit = [...document.querySelectorAll(".tools button[aria-pressed=true]")].filter(isSeen)
+    .filter(it => getComputedStyle(it).backgroundColor === colourNamed("--accent"));
+  return lit.filter(it => {
+    seen();
+    const before = seen();
+    it.click();
+    const after = seen();
+    if (!it.disabled) it.click(); else walk.keys[{ follow: "f" }[it.id]]();
+    return before === after;
+  }).map(it => it.id);
+}
+
+// On the wall, behind so many moves: nodes, tokens and what is put beside nodes that aren't whole in the picture, or are below something.
+function wholeFaults(places) {
+  const wrong = [];
+  const covers = [...document.querySelectorAll("#net .tools, #map")].filter(isSeen).map(rectOf);
+  for (const at of places) {
+    walk.show(at);
+    const picture = rectOf(byId("picture"));
+    for (const it of document.querySelectorAll("#picture :is(.node, .token, .entry, .answer)")) {
+      const box = rectOf(it);
+      if (!isWithin(box, picture) || covers.some(other => areMet(other, box))) wrong.push(`${at}: ${it.textContent}`);
+    }
+  }
+  return wrong;
+}
+
+// Moves behind which nodes are outside of the picture and no map shows where.
+function mapFaults(places) {
+  const wrong = [];
+  for (const at of places) {
+    walk.show(at);
+    const picture = rectOf(byId("picture"));
+    const isOut = [...document.querySelectorAll("#picture .node rect")].some(it => !isWithin(rectOf(it), picture));
+    if (picture.width > 500 && isOut && !isSeen(byId("map"))) wrong.push(`${at}: no map`);
+  }
+  return wrong;
+}
+
 // What is wrong on the wall behind each of so many moves: letters below 1/36 of the window's height, texts that meet, a card that hides a
 // token or is hidden, a token that is told and not seen, a sentence or a list that is cut off, forks and stacks that aren't there.
-function wallFaults(places) {
+async function wallFaults(places) {
   const wrong = [];
-  const rect = it => it.getBoundingClientRect();
-  const over = (one, two) => Math.min(one.right, two.right) - Math.max(one.left, two.left) > 1.5 &&
-    Math.min(one.bottom, two.bottom) - Math.max(one.top, two.top) > 1.5;
-  const within = (one, two) => one.left >= two.left - 1 && one.right <= two.right + 1 && one.top >= two.top - 1 &&
-    one.bottom <= two.bottom + 1;
+  const [rect, over, within] = [rectOf, areMet, isWithin];
   const shown = query => [...document.querySelectorAll(query)].filter(it => it.getClientRects().length > 0 && it.textContent.trim());
   for (const at of places) {
     walk.show(at);
+    await settled();
     const fault = text => wrong.push(`${at}: ${text}`);
     const least = Math.min(...shown("#picture :is(text, tspan), #told *, #program").map(it =>
       parseFloat(getComputedStyle(it).fontSize) * (it.getScreenCTM ? it.getScreenCTM().d : 1)));
-    if (least < innerHeight / 36 - 0.1) fault(`letters of ${least.toFixed(1)} px`);
+    if (least < leastLetter()) fault(`letters of ${least.toFixed(1)} px`);
     const labels = shown("#picture .label").map(it => [it.textContent, rect(it)]);
     labels.forEach(([text, one], place) => {
       for (const [other, two] of labels.slice(place + 1)) if (over(one, two)) fault(`text ${text} meets ${other}`);
@@ -458,6 +560,29 @@ function wideNodes() {
   return [...document.querySelectorAll("#picture .node")].filter(it => width(it, "text") > width(it, "rect") - 4).map(it => it.textContent);
 }
 
+// What of the left column isn't in sight behind so many moves: what is said of the move from its first line on, and the stacks.
+function columnFaults(at) {
+  walk.show(at);
+  const rect = it => it.getBoundingClientRect();
+  const left = rect(byId("left"));
+  const bottom = Math.min(left.bottom, rect(document.querySelector("footer")).top);
+  const parts = [...byId("say").children, byId("stacks")].filter(it => it.textContent.trim());
+  const wrong = parts.filter(it => rect(it).top < left.top || rect(it).bottom > bottom + 1).map(it => it.textContent.slice(0, 30));
+  const texts = [...byId("say").children, byId("stacks-box"), byId("row"), byId("waiting-box"), byId("steps-box")].filter(it => isSeen(it) && it.textContent.trim());
+  texts.forEach((one, place) => {
+    for (const two of texts.slice(place + 1)) if (areMet(rect(one), rect(two))) wrong.push(`${one.textContent.slice(0, 20)} meets ${two.textContent.slice(0, 20)}`);
+  });
+  return wrong;
+}
+
+// The row of the trace that is marked, where it isn't whole in its box.
+function traceFaults() {
+  const box = rectOf(byId("trace-rows"));
+  const row = document.querySelector("#trace-rows .present");
+  if (!row) return ["no row is marked"];
+  return rectOf(row).top >= box.top && rectOf(row).bottom <= box.bottom ? [] : [`${rectOf(row).top} to ${rectOf(row).bottom} in ${box.top} to ${box.bottom}`];
+}
+
 // What isn't as it is to be while somebody guesses: the form outside of the window or cut off, a token or a node that it covers, a picture
 // that is too low; on the wall letters below 1/36 of the window's height.
 function guessFaultsSeen() {
@@ -472,6 +597,8 @@ function guessFaultsSeen() {
     if (rect(it).right > innerWidth || rect(it).left < 0) wrong.push(`outside: ${it.id}`);
     if (walk.view.wall && it.matches("p") && parseFloat(getComputedStyle(it).fontSize) < innerHeight / 36 - 0.1) wrong.push(`small: ${it.id}`);
   }
+  const nodes = [...document.querySelectorAll("#picture .node rect")];
+  if (!walk.view.wall && nodes.some(it => !isWithin(rect(it), rect(picture)))) wrong.push("a node isn't seen");
   const token = document.querySelector("#picture .token");
   if (rect(token).bottom > rect(picture).bottom || rect(token).top < rect(picture).top) wrong.push("the token isn't seen");
   if (!byId("guess-said").textContent.startsWith("Not so")) wrong.push("nothing is said");

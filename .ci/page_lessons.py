@@ -13,7 +13,6 @@ import page_steps as steps
 TOP = pathlib.Path(__file__).resolve().parent.parent
 # So many moves of a run are guessed.
 MOVES = 30
-SIZES = ((1280, 800), (1920, 1080), (1024, 768), (800, 600), (390, 844))
 
 
 # As logic has it.
@@ -154,6 +153,14 @@ field("say").click();
 return { asked, said: field("said").textContent, at: walk.view.run.state.at, count: field("count").textContent };"""
 
 
+# A place on a wire.
+SPOT = """
+const path = document.querySelectorAll("#picture .wire")[arguments[0]];
+const { x, y } = path.getPointAtLength(path.getTotalLength() * 0.6);
+const at = new DOMPoint(x, y).matrixTransform(path.getScreenCTM());
+return [at.x + 4, at.y];"""
+
+
 def guesses_of(trace):
     """For each move what is right to say, and the token that is asked."""
     found = []
@@ -208,12 +215,7 @@ def try_guess(page, window, walks):
     shown = window.script("return [walk.view.run.state.at, document.getElementById('guess-count').textContent, document.getElementById('guess-said').textContent]")
     page.judge("a move that is shown", (shown[0], shown[1], shown[2].startswith("Der: value to variable, value ↑ m becomes variable ↓ *.m. ")),
                (4, "0 of 1 at the first go", True))
-    x, y = window.script("""
-      const path = document.querySelectorAll("#picture .wire")[4];
-      const { x, y } = path.getPointAtLength(path.getTotalLength() * 0.6);
-      const at = new DOMPoint(x, y).matrixTransform(path.getScreenCTM());
-      return [at.x + 4, at.y];""")
-    page.press(window, x, y)
+    page.press(window, *window.script(SPOT, 4))
     page.judge("a wire that is pressed", window.script("return [document.getElementById('guess-wire').value, walk.view.run.state.at]"), ["4", 4])
     window.script("document.getElementById('guess-work').select()")
     window.keys("l*" + page.ENTER)
@@ -229,7 +231,7 @@ def try_guess(page, window, walks):
     window.keys(page.ESCAPE)
     page.judge("it is left", window.script("return walk.guess.on"), False)
     page.judge("and the log is there", window.script(hidden)[:6], [False] * 6)
-    for width, height in SIZES:
+    for width, height in page.SIZES:
         window.view(width, height)
         for wall in ("", "&wall=1") if width > 600 else ("",):
             window.open("about:blank")
@@ -237,6 +239,23 @@ def try_guess(page, window, walks):
             window.script("document.getElementById('guess-wire').value = 1; document.getElementById('guess-say').click()")
             page.judge(f"guessing at {width}x{height}{wall}", page.ask(window, "guessFaultsSeen"), [])
     window.view()
+    window.open("about:blank")
+    window.open(double.address + "#move=3&guess=1&wall=1")
+    window.script("walk.setSpeed(500)")
+    asked = "return document.getElementById('guess-asks').textContent"
+    page.judge("on the wall a move is asked", window.script(asked), "Ticket 0, ? up 0 - -, moves next. Press the wire on which it is then, and say what it has there.")
+    spot = window.script(SPOT, 1)
+    page.press(window, *spot)
+    page.judge("a wire that is pressed on the wall", window.script("return [document.getElementById('guess-wire').value, walk.view.run.state.at]"), ["1", 3])
+    window.script("document.getElementById('guess-work').select()")
+    window.keys("r*" + page.ENTER)
+    said = window.script("return document.getElementById('guess-said').textContent")
+    page.judge("what isn't so is told on the wall", (said.startswith("Not so: the work stack. The rule is Der: "), page.now(window)), (True, 3))
+    window.script("document.getElementById('guess-work').select()")
+    window.keys("*" + page.ENTER)
+    page.judge("and what is so goes on", page.comes(window, 4), 4)
+    page.judge("still on the wall", window.script("return [walk.view.wall, walk.guess.on, document.getElementById('guess-count').textContent]"),
+               [True, True, "0 of 1 at the first go"])
     page.quiet(window, "guessing")
 
 

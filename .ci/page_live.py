@@ -498,6 +498,41 @@ def try_looks(page, window):
     window.resize(1440, 900)
 
 
+def try_sizes(page, window):
+    """In each window the sentence and the stacks are in sight, the picture has half of a small one, no control is cut off, meets another or is
+    lit for nothing, the row of a moment of the trace is seen, and the tour covers nothing."""
+    moments = (("double", 8), ("sum", 786), ("unfolded", 148), ("door", 24), ("named", 21), ("apply", 12))
+    for width, height in page.SIZES:
+        window.view(width, height)
+        for name, at in moments:
+            where = f"goi.html, {name} at {width}x{height}"
+            window.open("about:blank")
+            window.open(PAGE.as_uri() + f"#example={name}&move={at}")
+            page.judge(f"{where}: opened", waits(window, f"return walk.view.name === '{name}.pcf' && walk.view.run.state.at === {at}"))
+            waits(window, IDLE)
+            if width > 1000:
+                page.judge(f"{where}: the left column", page.ask(window, "columnFaults", at), [])
+            else:
+                page.judge(f"{where}: the picture has half of a small window", page.ask(window, "pictureFaults", [0, 3, at]), [])
+            page.judge(f"{where}: controls", page.ask(window, "controlFaults"), [])
+            page.judge(f"{where}: nothing is lit that does nothing", page.ask(window, "litFaults", [0, 3, at]), [])
+            page.judge(f"{where}: the card is seen", page.ask(window, "cardFaults", [0, 3, at]), [])
+            window.script("walk.show(arguments[0]); machine.openTab('trace')", at)
+            page.judge(f"{where}: the row of the trace", page.ask(window, "traceFaults"), [])
+            if width > 1000:
+                page.judge(f"{where}: the left column beside the trace", page.ask(window, "columnFaults", at), [])
+        if width <= 1300:
+            page.press(window, *page.ask(window, "middleOf", "#menu"))
+        page.press(window, *page.ask(window, "middleOf", "#begin-tour"))
+        time.sleep(0.2)
+        while window.script("return !document.getElementById('tour').hidden"):
+            title = window.script("return document.getElementById('tour-title').textContent")
+            page.judge(f"goi.html at {width}x{height}: {title}", page.ask(window, "tourFaults"), [])
+            page.press(window, *page.ask(window, "middleOf", "#tour-on"))
+    window.view()
+    quiet(page, window, "sizes")
+
+
 def try_live(page, program, folder):
     if not made(page):
         return
@@ -527,6 +562,7 @@ def try_window(page, window, program, folder):
         steps.try_steps(page, sys.modules[__name__], window, program, folder)
         values.try_values(page, sys.modules[__name__], window, program, folder)
         try_looks(page, window)
+        try_sizes(page, window)
         quiet(page, window, "the whole")
         print(f"the page with the machine in {window.name()}: {time.time() - began:.1f} s")
     finally:

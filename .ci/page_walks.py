@@ -284,7 +284,9 @@ def press(window, x, y, by_x=0, by_y=0):
 
 # The windows in which the page is measured: those of projectors.
 PROJECTED = ((1280, 800), (1920, 1080), (1024, 768), (800, 600))
-PHONE = (390, 844)
+# A low one, as what a browser with its bars leaves of a portable computer; and a telephone upright.
+LOW, PHONE = (1280, 657), (360, 740)
+SIZES = (*PROJECTED, LOW, PHONE)
 
 
 def moves_of(trace):
