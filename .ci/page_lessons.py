@@ -228,8 +228,9 @@ def try_guess(page, window, walks):
     page.judge("rounds end it", window.script("return [walk.guess.on, document.getElementById('guess').hidden]"), [False, True])
     window.keys("rq")
     page.judge("and its key begins it", window.script("return [walk.guess.on, walk.view.rounds]"), [True, None])
+    window.script("document.getElementById('guess-work').focus()")
     window.keys(page.ESCAPE)
-    page.judge("it is left", window.script("return walk.guess.on"), False)
+    page.judge("it is left, from a field too", window.script("return [walk.guess.on, document.activeElement.id]"), [False, "picture"])
     page.judge("and the log is there", window.script(hidden)[:6], [False] * 6)
     for width, height in page.SIZES:
         window.view(width, height)

@@ -137,4 +137,11 @@ function joinGuess() {
   byId("guess").addEventListener("submit", event => { event.preventDefault(); sayGuess(); });
   guessField("then").addEventListener("change", tellGuessedThen);
   guessField("wire").addEventListener("input", drawGuessed);
+  // (A key typed in a field is the field's; but for this one, behind which the arrows walk.)
+  byId("guess").addEventListener("keydown", event => {
+    if (event.key !== "Escape") return;
+    event.stopPropagation();
+    byId("picture").focus();
+    leave();
+  });
 }
