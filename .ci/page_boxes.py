@@ -410,6 +410,11 @@ def try_links(page, live, window, program, folder):
     window.script("document.querySelectorAll('#trace-rows [data-row]')[12].click()")
     page.judge("a press on a line of it", window.script("return [walk.view.run.state.at, document.querySelector('#trace-rows .present').dataset.move]"),
                [13, "12"])
+    page.press(window, *page.ask(window, "middleOf", "#tab-trace"))
+    window.keys(page.RIGHT)
+    page.comes(window, 14)
+    page.judge("behind a press on its tab the arrows walk", window.script(
+        "return [walk.view.run.state.at, document.getElementById('tab-trace').getAttribute('aria-selected')]"), [14, "true"])
     window.view()
     page.judge("stop is beside the tabs", window.script("return document.getElementById('own-head').clientHeight < 32"))
     window.open("about:blank")

@@ -93,7 +93,11 @@ function markTrace() {
 const saveTrace = () => walk.saveFile(walk.fileStem() + ".trace", "text/plain", walk.view.traceText);
 
 function joinTabs() {
-  for (const name of TABS) byId("tab-" + name).addEventListener("click", () => openTab(name));
+  // (Behind a press of the pointer on *trace* the arrows are the walk's, and not the tabs'.)
+  for (const name of TABS) byId("tab-" + name).addEventListener("click", event => {
+    openTab(name);
+    if (name === "trace" && event.detail > 0) byId("trace-rows").focus({ preventScroll: true });
+  });
   document.querySelector(".tabs").addEventListener("keydown", event => {
     const by = { ArrowRight: 1, ArrowLeft: -1 }[event.key];
     if (by === undefined) return;
