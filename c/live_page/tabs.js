@@ -72,8 +72,8 @@ function traceRow(text) {
 }
 
 // Marks the move that was made last, and the one that comes next, and has both in sight: the box is as high as they are, up to this share of
-// the window, and the first of them is seen whole.
-const TRACE_SHARE = 0.28;
+// the window (less in a low one, for the stacks below), and the first of them is seen whole.
+const traceShare = () => innerHeight < 700 ? 0.17 : 0.28;
 function markTrace() {
   const box = byId("trace-rows");
   const { run, rounds } = walk.view;
@@ -84,7 +84,7 @@ function markTrace() {
   rows.forEach((row, place) => row?.classList.add(["present", "next"][place]));
   if (!rows[0] && !rows[1]) return;
   const [top, bottom] = [rows[0] ?? rows[1], rows[1] ?? rows[0]].map(it => it.getBoundingClientRect());
-  const most = Math.max(innerHeight * TRACE_SHARE, top.height + 12);
+  const most = Math.max(innerHeight * traceShare(), top.height + 12);
   box.style.minHeight = Math.min(bottom.bottom - top.top + 12, most) + "px";
   const own = box.getBoundingClientRect();
   if (top.top < own.top + 1 || bottom.bottom > own.bottom - 1) box.scrollTop += top.top - own.top - 4;
