@@ -32,7 +32,7 @@ function askGuess() {
   const move = guessedMove();
   if (view.run.state.at === 0 || view.run.lastMove().number !== guess.told) guessField("said").textContent = "";
   for (const it of byId("guess").querySelectorAll("input, select, #guess-say, #guess-show")) it.disabled = move === null;
-  byId("guess-count").textContent = guess.all === 0 ? "" : `${guess.right} of ${guess.all} at the first go`;
+  tellCount();
   drawing.layers.guessed.replaceChildren();
   if (move === null) { byId("guess-asks").textContent = "The run is over: no move is left."; return; }
   const { before } = move;
@@ -102,6 +102,20 @@ function rowInLine({ from, to }) {
   return `, ${side(from)} becomes ${side(to)}`;
 }
 
+const tellCount = () => byId("guess-count").textContent = guess.all === 0 ? "" : `${guess.right} of ${guess.all} at the first go`;
+
+// What is told below the fields, and how many were right. Where the form has more lines than before the picture has less room, and the net
+// is fitted to it at once.
+function tellGuess(kind, text) {
+  const { height } = pictureSize();
+  tellCount();
+  guessField("said").className = kind;
+  guessField("said").textContent = text;
+  if (camera.moved || pictureSize().height === height) return;
+  showHome();
+  drawCard();
+}
+
 function sayGuess() {
   const move = guessedMove();
   if (!guess.on || !move) return;
@@ -113,12 +127,10 @@ function sayGuess() {
   if (isFirst) guess.all++;
   if (isFirst && faults.length === 0) guess.right++;
   const names = faults.map(name => GUESS_NAMES[name]).join(", ");
-  guessField("said").className = faults.length === 0 ? "right" : "wrong";
-  guessField("said").textContent = faults.length === 0 ? `Right. ${rule.title}${rowInLine(rule)}. ${rule.say}`
-    : `Not so: ${names}. The rule is ${rule.title}${rowInLine(rule)}. Try again.`;
+  if (faults.length === 0) tellGuess("right", `Right. ${rule.title}${rowInLine(rule)}. ${rule.say}`);
+  else tellGuess("wrong", `Not so: ${names}. The rule is ${rule.title}${rowInLine(rule)}. Try again.`);
   guess.told = move.number;
   if (faults.length === 0) forth();
-  else byId("guess-count").textContent = `${guess.right} of ${guess.all} at the first go`;
 }
 
 // Gives the move up.
@@ -127,8 +139,7 @@ function showGuessed() {
   if (!move) return;
   if (guess.tried !== move.number) guess.all++;
   const rule = ruleOf(move);
-  guessField("said").className = "";
-  guessField("said").textContent = `${rule.title}${rowInLine(rule)}. ${rule.say}`;
+  tellGuess("", `${rule.title}${rowInLine(rule)}. ${rule.say}`);
   guess.told = move.number;
   forth();
 }
