@@ -20,8 +20,8 @@ function openWalk({ name, file, program, net: netText, trace: traceText, steps: 
   drawProgram(term);
   Object.assign(view, { alone: { run, questions }, together: null, rounds: null, told: null });
   tellWay();
-  const [first, ...more] = summaryParts();
-  byId("summary").replaceChildren(first, ...more.length > 0 ? [element("span", { class: "more" }, " · " + more.join(" · "))] : []);
+  const { first, more } = summaryParts();
+  byId("summary").replaceChildren(first, element("span", { class: "more" }, more));
   forgetChain();
   drawNet();
   tellWires();
@@ -39,20 +39,24 @@ function tellWires() {
   byId("wires-heard").replaceChildren(...net.wires.slice(0, WIRES_HEARD).map(wire => element("li", {}, wireWords(wire, net))));
 }
 
-// (In a narrow window there is room for the first of them alone.)
+// (In a narrow window there is room for the first part alone, in one line.)
 function summaryParts() {
   const { run, net } = view;
   const { value, moves, lines } = run.trace;
   const many = (count, what) => count + " " + what + (count === 1 ? "" : "s");
-  const parts = [value === null ? `no value within ${moves} moves` : `value ${value}, ${many(moves, "move")}`];
+  let first = value === null ? `no value within ${moves} moves` : `value ${value}, ${many(moves, "move")}`;
+  const parts = [""];
   if (!run.whole && lines.length > 0) parts.push(`here moves ${run.first} to ${run.first + run.length - 1}`);
   parts.push(many(net.nodes.length, "node"), many(run.tickets(), "ticket"));
   if (whyNoRounds(run) === null) {
     const { rounds, most } = view.questions.span;
-    parts[0] += most > 1 ? ` in ${many(rounds, "round")} of at most ${most}` : "";
+    if (most > 1) {
+      first += ` in ${many(rounds, "round")}`;
+      parts[0] = ` of at most ${most}`;
+    }
   }
   if (run.workers > 1) parts.push(many(run.workers, "worker"));
-  return parts;
+  return { first, more: parts.join(" · ") };
 }
 
 // A trace alone is shown on the net that is open.
