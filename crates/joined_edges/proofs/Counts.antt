@@ -16,8 +16,9 @@ use Rattle.joined_edges.proofs.Flags.{by_flag}
 abbrev pub moves_wires : List Item
 moves_wires =
     wire (upto (count 8)) "moves_low" (two plus (cat (sized 1 0) (part "moves" (count 7) (count 0))) (name "counts")) ∷
-    wire (upto (count 24)) "moves_middle" (two plus (cat (sized 1 0) (part "moves" (count 31) (count 8))) (bit "moves_low" (num 8))) ∷
-    wire (upto (count 31)) "moves_high" (two plus (part "moves" (count 63) (count 32)) (name "carried")) ∷ []
+    wire (upto (count 24)) "moves_middle"
+    (two plus (cat (sized 1 0) (part "moves" (count 31) (count 8))) (cat (sized 24 0) (bit "moves_low" (num 8)))) ∷
+    wire (upto (count 31)) "moves_high" (two plus (part "moves" (count 63) (count 32)) (cat (sized 31 0) (name "carried"))) ∷ []
 
 abbrev pub moves_items : List Item
 moves_items = output (upto (count 63)) "moves" ∷ reg one "carried" ∷ moves_wires
@@ -25,7 +26,7 @@ moves_items = output (upto (count 63)) "moves" ∷ reg one "carried" ∷ moves_w
 -- ---- numbers
 
 -- the upper half, with a carry
-high_half : (n k : ℕ) → fit 32 (fit 32 (fit 32 (n / 2 ^ 32) + k)) ≡ (n / 2 ^ 32 + k) % 2 ^ 32
+high_half : (n k : ℕ) → fit 32 (fit 32 (fit 32 (n / 2 ^ 32) + (0 * 2 ^ 1 + k))) ≡ (n / 2 ^ 32 + k) % 2 ^ 32
 high_half n k = omega arith
 
 bit_flag : (n : ℕ) → n < 2 → fit 1 (flag (nonzero n)) ≡ n
@@ -88,9 +89,10 @@ module _ (P0 : Scope) (R : Store) (α : Bool) (c : ℕ) (acts : R.vec "acts" ≡
     middle_is : R.vec "moves_middle" ≡ middle
     middle_is =
         let e = lower_is in
-        r.1.0 ∙ (λ i. fit 25 (fit 25 (0 * 2 ^ 24 + fit 24 (m / 2 ^ 8) + e i / 2 ^ 8 % 2))) ∙ small m lower
+        r.1.0 ∙ (λ i. fit 25 (fit 25 (0 * 2 ^ 24 + fit 24 (m / 2 ^ 8) + (0 * 2 ^ 1 + e i / 2 ^ 8 % 2)))) ∙ small m lower
       where
-        small : (n l : ℕ) → fit 25 (fit 25 (0 * 2 ^ 24 + fit 24 (n / 2 ^ 8) + l / 2 ^ 8 % 2)) ≡ n / 2 ^ 8 % 2 ^ 24 + l / 2 ^ 8 % 2
+        small : (n l : ℕ) → fit 25 (fit 25 (0 * 2 ^ 24 + fit 24 (n / 2 ^ 8) + (0 * 2 ^ 1 + l / 2 ^ 8 % 2))) ≡
+            n / 2 ^ 8 % 2 ^ 24 + l / 2 ^ 8 % 2
         small n l = omega arith
 
     higher_is : R.vec "moves_high" ≡ (m / 2 ^ 32 + k) % 2 ^ 32

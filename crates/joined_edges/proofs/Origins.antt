@@ -6,7 +6,7 @@ use Rattle.std.proofs.Common.{refl, sym, ap, subst, ◌∙◌, arith, nat_lt}
 use Rattle.std.proofs.lemmas.Bool.{lt-ltb, ltb-true, and_parts}
 use Rattle.std.proofs.lemmas.Nat.{mod_below, pow_pos, mul-le}
 use Prim.Native.String.{String}
-use Rattle.verilog_tree.specs.Tree.{plus, count, name, part, pick, two}
+use Rattle.verilog_tree.specs.Tree.{plus, count, sized, name, part, pick, two}
 use Rattle.verilog_tree.specs.Meaning.{Scope, Store, fit, flag, nonzero, chosen, assigned}
 use Rattle.verilog_tree.proofs.Numbers.{fits, fits_twice}
 use Rattle.joined_module.specs.Rows.{ForkDeed, no_fork, opens, keeps, closes, ModuleRow}
@@ -66,7 +66,7 @@ pub record PlaceWires (W : Widths) (P : Scope) (R : Store) : Type 0 where
       (count (W.place + pointer_width W * i)))
   pub fork_top : R.vec "fork_top" ≡ assigned P R W.place (part "fork_has" (count (W.place - 1)) (count 0))
   pub base : R.vec "base" ≡ assigned P R W.place (pick (name "touches") (name "fork_top") (name "top"))
-  pub next_top : R.vec "next_top" ≡ assigned P R W.place (two plus (name "base") (name "makes"))
+  pub next_top : R.vec "next_top" ≡ assigned P R W.place (pick (name "makes") (two plus (name "base") (sized 1 1)) (name "base"))
   pub cell_wide : P.width "cell_has" ≡ cell_width W
   pub fork_wide : P.width "fork_has" ≡ fork_width W
 
@@ -155,9 +155,19 @@ module _ (W : Widths) (enough : Wide W) (P : Scope) (R : Store) where
       next_top_is m l =
           let b = base_is in
           wires.next_top
-          ∙ (λ i. fit W.place (fit (max W.place (max (P.width "base") (P.width "makes"))) (b i + m i)))
-          ∙ fits_twice W.place (max W.place (max (P.width "base") (P.width "makes"))) (base_of r D + flag r.makes)
-          (low (base_of r D + flag r.makes) l) (omega arith)
+          ∙ (λ i. fit W.place (chosen (nonzero (m i)) (fit wide (b i + 1)) (b i)))
+          ∙ go r.makes l
+        where
+          wide : ℕ
+          wide = max W.place (max (max (P.width "base") 1) (P.width "base"))
+
+          go : (c : Bool) → base_of r D + flag c ≤ W.cells →
+              fit W.place (chosen (nonzero (flag c)) (fit wide (base_of r D + 1)) (base_of r D)) ≡ base_of r D + flag c
+          go true k = fits_twice W.place wide (base_of r D + 1) (low (base_of r D + 1) k) (omega arith)
+          go false k = fits W.place (base_of r D) (low (base_of r D) (omega (arith, k))) ∙ none_more (base_of r D)
+            where
+              none_more : (n : ℕ) → n ≡ n + 0
+              none_more n = omega arith
 
 -- ---- of a run that goes on
 

@@ -138,8 +138,9 @@ module _ (rows : List ModuleRow) (z : Room) (start n : ℕ) (b : Bool) where
       base = wire_is W.place enough.some_place "base" (pick (name "touches") (name "fork_top") (name "top"))
           (in_place rows z start n b (wire (vector_wide W.place) "base" (pick (name "touches") (name "fork_top") (name "top")))
           (stands_at (place_wires W) 4 _ refl));
-      next_top = wire_is W.place enough.some_place "next_top" (two plus (name "base") (name "makes"))
-          (in_place rows z start n b (wire (vector_wide W.place) "next_top" (two plus (name "base") (name "makes")))
+      next_top = wire_is W.place enough.some_place "next_top" (pick (name "makes") (two plus (name "base") (sized 1 1)) (name "base"))
+          (in_place rows z start n b
+          (wire (vector_wide W.place) "next_top" (pick (name "makes") (two plus (name "base") (sized 1 1)) (name "base")))
           (stands_at (place_wires W) 5 _ refl));
       cell_wide = reg_is (cell_width W) (omega arith) "cell_has" (in_store rows z start n b (reg (vector_wide (cell_width W)) "cell_has")
           (stands_at (store_registers W) 4 _ refl));

@@ -196,10 +196,10 @@ module _ (T : ModuleTable) (z : Room) (n : ℕ) where
 
     abbrev middle_wire : Item
     middle_wire = wire (upto (count 24)) "moves_middle"
-        (two plus (cat (sized 1 0) (part "moves" (count 31) (count 8))) (bit "moves_low" (num 8)))
+        (two plus (cat (sized 1 0) (part "moves" (count 31) (count 8))) (cat (sized 24 0) (bit "moves_low" (num 8))))
 
     abbrev high_wire : Item
-    high_wire = wire (upto (count 31)) "moves_high" (two plus (part "moves" (count 63) (count 32)) (name "carried"))
+    high_wire = wire (upto (count 31)) "moves_high" (two plus (part "moves" (count 63) (count 32)) (cat (sized 31 0) (name "carried")))
 
     in_moves : (i : Item) → Has i moves_wires → Has i (is T z n)
     in_moves i m = in_rest Rs z T.start n (b T z n) i (go i m)

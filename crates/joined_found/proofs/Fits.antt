@@ -1,5 +1,6 @@
 -- Fields have room for their numbers.
 use Rattle.std.proofs.Common.{◌≡◌, ◌<◌, ◌≤◌, ℕ, suc, ◌-◌, ◌^◌, max, Bool, List, [], ◌∷◌, ◌++◌, Option, Some, None, arith, refl}
+use Rattle.std.proofs.Math.Nat.{pow-le-pow_right}
 use Prim.Native.String.{String}
 use Rattle.verilog_tree.specs.Meaning.{flag, width_of}
 use Rattle.verilog_tree.proofs.Numbers.{flag_le}
@@ -7,8 +8,8 @@ use Rattle.joined_module.specs.Rows.{From, Operand, the_value, the_kept, a_liter
 use Rattle.joined_module.specs.Fields.{Field, flag_field, number_field, bits_upto, most_by, Slot, tag_else, tag_or, tag_of_from, first_tag}
 use Rattle.joined_module.specs.Fields.{by_field, tag_field, all_slots, seen_tag, most_tag, tag_bits, Input, first_input, second_input}
 use Rattle.joined_module.specs.Fields.{number_or}
-use Rattle.joined_module.specs.Fields.{first_number, operand_field, literal_field, none_field, to_field, slot_fields, input_fields}
-use Rattle.joined_module.specs.Fields.{row_fields}
+use Rattle.joined_module.specs.Fields.{first_number, operand_field, literal_field, none_field, to_field, count_field, slot_fields}
+use Rattle.joined_module.specs.Fields.{input_fields, row_fields}
 use Rattle.joined_found.specs.Found.{Each}
 use Rattle.joined_found.specs.Laws.{FieldFits, FieldsFit}
 use Rattle.joined_found.proofs.Eaches.{each_map, each_of, each_append}
@@ -22,6 +23,18 @@ flag_fits rows x f = (omega arith, each_of (λ r. flag (f r) < 2 ^ 1) (λ r. fla
 
 number_fits : (rows : List ModuleRow) (x : String) (f : ModuleRow → ℕ) → FieldFits rows (number_field rows x f)
 number_fits rows x f = (none_fits (most_by f rows), most_fits f rows)
+
+count_fits : (rows : List ModuleRow) → FieldFits rows (count_field rows)
+count_fits rows = (
+  wider 0 (none_fits (most_by (λ r. r.moves) rows)),
+  each_map (λ r. r.moves < 2 ^ b) (λ r. r.moves < 2 ^ max 9 b) (λ r. wider r.moves) rows (most_fits (λ r. r.moves) rows),
+)
+  where
+    b : ℕ
+    b = bits_upto (most_by (λ r. r.moves) rows)
+
+    wider : (n : ℕ) → n < 2 ^ b → n < 2 ^ max 9 b
+    wider n l = let up : 2 ^ b ≤ 2 ^ max 9 b = pow-le-pow_right (omega arith) (omega arith) in omega arith
 
 none_field_fits : (rows : List ModuleRow) → FieldFits rows none_field
 none_field_fits rows = (omega arith, each_of (λ r. 0 < 2 ^ 1) (λ r. omega arith) rows)
@@ -123,6 +136,9 @@ IsWide p f = width_of p f.wide ≡ f.bits
 vector_bits : (m : ℕ) → suc (bits_upto m - 1) ≡ bits_upto m
 vector_bits m = let h = bits_some m in omega arith
 
+count_bits : (b : ℕ) → suc (max 9 b - 1) ≡ max 9 b
+count_bits b = omega arith
+
 slots_wide : (p : String → ℕ) (m : ℕ) (rows : List ModuleRow) (ss : List Slot) → Each (IsWide p) (slot_fields (bits_upto m) rows ss)
 slots_wide p m rows [] = tt
 slots_wide p m rows (s ∷ ss) = (vector_bits (most_by (by_field rows s).at rows), (vector_bits m, slots_wide p m rows ss))
@@ -145,7 +161,7 @@ fields_wide p rows =
       (
         vector_bits (most_by (λ r. max r.to r.key) rows),
         (
-          vector_bits (most_by (λ r. r.moves) rows),
+          count_bits (bits_upto (most_by (λ r. r.moves) rows)),
           (
             refl,
             (
@@ -180,7 +196,7 @@ fields_fit rows =
       (
         to_fits rows,
         (
-          number_fits rows "counts" (λ r. r.moves),
+          count_fits rows,
           (
             flag_fits rows "waits" _,
             (

@@ -7,7 +7,7 @@ use Prim.Native.String.{String}
 use Rattle.pcf_values.specs.declared.operator.Operator.{Operator}
 use Rattle.pcf_values.specs.declared.operator.Operator.TheVariants.{Minus, Times}
 use Rattle.joined_core.specs.Rows.{Site, on_value}
-use Rattle.verilog_tree.specs.Tree.{count, Expr, sized, name, part, cat, pick, test, same, Width, one, upto}
+use Rattle.verilog_tree.specs.Tree.{count, Expr, num, sized, name, part, cat, pick, test, same, Width, one, upto}
 use Rattle.verilog_tree.specs.Meaning.{flag}
 use Rattle.circuit_module.specs.Sizes.{bits_for}
 use Rattle.joined_module.specs.Names.{held_name, sig_name, box_name, word_name, fork_box_name, next_sig_name, next_box_name}
@@ -142,7 +142,7 @@ source_expr p t e (from_none n) = cat (name "base") e
 
 -- one of some, by their place
 abbrev pub picked : Expr → (bits from : ℕ) → List Expr → Expr
-picked e b n [] = sized 1 0
+picked e b n [] = num 0
 picked e b n (x ∷ []) = x
 picked e b n (x ∷ y ∷ xs) = pick (test same e (sized b n)) x (picked e b (suc n) (y ∷ xs))
 
@@ -393,8 +393,15 @@ to_field rows = record {
   at = λ r. r.to;
 }
 
+-- a row's moves, as wide at least as the sum of which they are a part
 abbrev pub count_field : List ModuleRow → Field
-count_field rows = number_field rows "counts" (λ r. r.moves)
+count_field rows = record {
+  title = "counts";
+  bits = max 9 (bits_upto (most_by (λ r. r.moves) rows));
+  wide = vector_wide (max 9 (bits_upto (most_by (λ r. r.moves) rows)));
+  idle = 0;
+  at = λ r. r.moves;
+}
 
 abbrev pub waits_field : Field
 waits_field = flag_field "waits" (λ r. r.waits)

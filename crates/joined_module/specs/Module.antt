@@ -248,7 +248,7 @@ abbrev pub place_wires : Widths → List Item
 place_wires W =
     wire (vector_wide W.place) "fork_top" (part "fork_has" (count (W.place - 1)) (count 0)) ∷ gap ∷ note "---- what the row makes" ∷ gap ∷
     wire (vector_wide W.place) "base" (pick (name "touches") (name "fork_top") (name "top")) ∷
-    wire (vector_wide W.place) "next_top" (two plus (name "base") (name "makes")) ∷ []
+    wire (vector_wide W.place) "next_top" (pick (name "makes") (two plus (name "base") (sized 1 1)) (name "base")) ∷ []
 
 abbrev pub slot_wires : (place tag : ℕ) → List ModuleRow → List Slot → List Item
 slot_wires p t rows [] = []
@@ -298,8 +298,9 @@ rest_wires W =
     wire (vector_wide W.place) "saved_top" (pick (name "above") (name "next_top") (name "base")) ∷ gap ∷
     note "---- the count of moves, its upper half an edge behind" ∷ gap ∷
     wire (upto (count 8)) "moves_low" (two plus (cat (sized 1 0) (part "moves" (count 7) (count 0))) (name "counts")) ∷
-    wire (upto (count 24)) "moves_middle" (two plus (cat (sized 1 0) (part "moves" (count 31) (count 8))) (bit "moves_low" (num 8))) ∷
-    wire (upto (count 31)) "moves_high" (two plus (part "moves" (count 63) (count 32)) (name "carried")) ∷ []
+    wire (upto (count 24)) "moves_middle"
+    (two plus (cat (sized 1 0) (part "moves" (count 31) (count 8))) (cat (sized 24 0) (bit "moves_low" (num 8)))) ∷
+    wire (upto (count 31)) "moves_high" (two plus (part "moves" (count 63) (count 32)) (cat (sized 31 0) (name "carried"))) ∷ []
 
 -- ---- the block of the clock
 

@@ -2,7 +2,7 @@
 use Rattle.std.proofs.Common.{◌≡◌, ◌-◌, ◌++◌, ℕ, true, ◌&&◌, ◌||◌, List, [], ◌∷◌, length, refl, ap, subst, sym, ◌∙◌}
 use Rattle.std.proofs.Common.{arith, max}
 use Rattle.std.specs.Prelude.{nat_lt}
-use Rattle.std.proofs.lemmas.Bool.{and_from, or_right}
+use Rattle.std.proofs.lemmas.Bool.{and_from, or_right, lt-ltb}
 use Rattle.std.proofs.lemmas.List.{append-nil}
 use Prim.Native.String.{String}
 use lib.Text.{eqt}
@@ -60,6 +60,9 @@ choices_wide rows = (
 pub key_positive : (rows : List ModuleRow) → nat_lt 0 (bits_upto (most_by (λ r. max r.to r.key) rows)) ≡ true
 key_positive rows = positive (most_by (λ r. max r.to r.key) rows)
 
+count_positive : (b : ℕ) → nat_lt 0 (max 9 b) ≡ true
+count_positive b = lt-ltb 0 (max 9 b) (omega arith)
+
 -- all fields of a row
 pub fields_wide : (rows : List ModuleRow) → Wide (row_fields rows)
 fields_wide rows = (
@@ -67,7 +70,7 @@ fields_wide rows = (
   (
     key_positive rows,
     (
-      positive (most_by (λ r. r.moves) rows),
+      count_positive (bits_upto (most_by (λ r. r.moves) rows)),
       (
         refl,
         (
