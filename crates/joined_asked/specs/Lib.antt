@@ -1,0 +1,2 @@
+-- What is asked of one row.
+pub mod Parts
