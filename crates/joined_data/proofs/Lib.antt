@@ -1,0 +1,4 @@
+-- where the first power of 2 stands that is above a number
+mod Powers
+-- rows that wait, from the first key on
+mod Keys

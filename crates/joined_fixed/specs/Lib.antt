@@ -1,0 +1,2 @@
+-- parts of a module's tree that no table changes
+pub mod Parts

@@ -1,0 +1,2 @@
+-- parts of the module
+pub mod Whole
