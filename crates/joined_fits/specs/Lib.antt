@@ -1,0 +1,2 @@
+-- parts of what is asked of a table
+pub mod Parts
