@@ -1,0 +1,2 @@
+-- What is asked of a table, part by part.
+pub mod Parts

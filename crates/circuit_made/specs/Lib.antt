@@ -1,0 +1,4 @@
+-- A net's table, and the circuit of a net.
+pub mod Made
+-- Which table a table of the code is.
+pub mod Views

@@ -1,0 +1,2 @@
+-- The parts of a text, one behind the other.
+pub mod Whole
