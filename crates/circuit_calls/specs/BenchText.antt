@@ -1,12 +1,11 @@
--- The text of a bench for the circuit of a program, which runs the circuit once and says whether it answers what it should: the value, the
--- moves, and as many cycles as moves. Where the circuit's numbers may be late a move takes up to 131 cycles, and there have to be no fewer
--- cycles than moves. The bench is a module without ports, named as the circuit is with `_bench` behind it, that makes its clock and its
--- reset by itself, waits for at most one cycle more than there are moves, or for 131 for each of these, and prints one line, `passed` or
--- `failed: ..` with what came and what was wanted. A register may be anything before the reset, so the comparisons tell an unknown bit from
--- each known one. A failed bench ends by `$fatal`, which is a task of IEEE 1800-2017 (20.10) and none of IEEE 1364-2005: Verilog itself has
--- no task that tells whoever called the simulator that something went wrong. The text is stated line by line; docs/CIRCUIT.md tells what is
--- tried of it.
-use Rattle.std.specs.Prelude.{ℕ, Bool, true, false, List, [], ◌∷◌, ◌++◌, codes, decimal}
+-- The text of a bench for the circuit of a program, which runs the circuit once and says whether it answers what it should: the value and
+-- the moves. A circuit makes a row of moves within 133 cycles, and takes the most where a product of 64 bits is waited for. The bench is a
+-- module without ports, named as the circuit is with `_bench` behind it, that makes its clock and its reset by itself, waits for at most
+-- 133 cycles for each move and for one more, and prints one line, `passed` or `failed: ..` with what came and what was wanted. A register
+-- may be anything before the reset, so the comparisons tell an unknown bit from each known one. A failed bench ends by `$fatal`, which is
+-- a task of IEEE 1800-2017 (20.10) and none of IEEE 1364-2005: Verilog itself has no task that tells whoever called the simulator that
+-- something went wrong. The text is stated line by line; docs/CIRCUIT.md tells what is tried of it.
+use Rattle.std.specs.Prelude.{ℕ, List, [], ◌∷◌, ◌++◌, codes, decimal}
 use Rattle.pcf_values.specs.declared.val.Val.{Val}
 use Rattle.pcf_values.specs.declared.val.Val.TheVariants.{Number, Overflow}
 use Rattle.circuit_calls.specs.Lines.{lines}
@@ -20,14 +19,10 @@ bench_head =
     "`default_nettype none" ∷ []) ++ codes "module "
 
 -- the end of the name, up to the value
-unfoldable pub bench_begin : (late : Bool) → List ℕ
-bench_begin false =
+unfoldable pub bench_begin : List ℕ
+bench_begin =
     lines ("_bench;" ∷
-    "  // The value of the program, where bit 64 says overflow, and the moves of its run: a circuit makes one in each cycle." ∷ [])
-    ++ codes "  localparam [64:0] RESULT = 65'd"
-bench_begin true =
-    lines ("_bench;" ∷
-    "  // The value of the program, where bit 64 says overflow, and the moves of its run: each takes the circuit 1 to 131 cycles." ∷ [])
+    "  // The value of the program, where bit 64 says overflow, and the moves of its run." ∷ [])
     ++ codes "  localparam [64:0] RESULT = 65'd"
 
 -- a value as a number of 65 bits
@@ -67,24 +62,9 @@ bench_circuit =
     "" ∷ [])
 
 -- the run
-unfoldable pub bench_loop : (late : Bool) → List ℕ
-bench_loop false =
-    lines ("  // One edge with rst high, and then edges with rst low until the circuit has ended, or there was one more than there are" ∷
-    "  // moves. The outputs are looked at between the edges. Where the bench has failed, $fatal tells whoever runs it." ∷
-    "  initial begin" ∷
-    "    clk = 0;" ∷
-    "    rst = 1;" ∷
-    "    cycles = 0;" ∷
-    "    #5 clk = 1;" ∷
-    "    #5 clk = 0;" ∷
-    "    rst = 0;" ∷
-    "    while (done === 0 && full === 0 && cycles <= MOVES) begin" ∷
-    "      #5 clk = 1;" ∷
-    "      #5 clk = 0;" ∷
-    "      cycles = cycles + 1;" ∷
-    "    end" ∷ [])
-bench_loop true =
-    lines ("  // One edge with rst high, and then edges with rst low until the circuit has ended, or there were 131 for each move and for" ∷
+unfoldable pub bench_loop : List ℕ
+bench_loop =
+    lines ("  // One edge with rst high, and then edges with rst low until the circuit has ended, or there were 133 for each move and for" ∷
     "  // one more. The outputs are looked at between the edges. Where the bench has failed, $fatal tells whoever runs it." ∷
     "  initial begin" ∷
     "    clk = 0;" ∷
@@ -93,31 +73,25 @@ bench_loop true =
     "    #5 clk = 1;" ∷
     "    #5 clk = 0;" ∷
     "    rst = 0;" ∷
-    "    while (done === 0 && full === 0 && cycles < 131 * (MOVES + 1)) begin" ∷
+    "    while (done === 0 && full === 0 && cycles < 133 * (MOVES + 1)) begin" ∷
     "      #5 clk = 1;" ∷
     "      #5 clk = 0;" ∷
     "      cycles = cycles + 1;" ∷
     "    end" ∷ [])
 
 -- what is compared and told
-unfoldable pub bench_told : (late : Bool) → List ℕ
-bench_told false =
-    lines ("    if (done === 1 && full === 0 && result === RESULT && moves === MOVES && cycles === MOVES) begin" ∷
+unfoldable pub bench_told : List ℕ
+bench_told =
+    lines ("    if (done === 1 && full === 0 && result === RESULT && moves === MOVES) begin" ∷
     "      $display(\"passed\");" ∷
     "      $finish;" ∷
     "    end else begin" ∷
-    "      $display(\"failed: done %b, full %b, result %0d, moves %0d, cycles %0d; wanted 1, 0, %0d, %0d, %0d\"," ∷ [])
-bench_told true =
-    lines ("    if (done === 1 && full === 0 && result === RESULT && moves === MOVES && cycles >= MOVES) begin" ∷
-    "      $display(\"passed\");" ∷
-    "      $finish;" ∷
-    "    end else begin" ∷
-    "      $display(\"failed: done %b, full %b, result %0d, moves %0d, cycles %0d; wanted 1, 0, %0d, %0d, at least %0d\"," ∷ [])
+    "      $display(\"failed: done %b, full %b, result %0d, moves %0d after %0d cycles; wanted 1, 0, %0d, %0d\"," ∷ [])
 
 -- the rest
 unfoldable pub bench_last : List ℕ
 bench_last =
-    lines ("        done, full, result, moves, cycles, RESULT, MOVES, MOVES);" ∷
+    lines ("        done, full, result, moves, cycles, RESULT, MOVES);" ∷
     "      $fatal(0);" ∷
     "    end" ∷
     "  end" ∷
@@ -126,14 +100,13 @@ bench_last =
     "// verilator lint_restore" ∷ [])
 
 -- the numbers of a bench for a program of this value and so many moves
-unfoldable pub bench_numbers : (late : Bool) → Val → (moves : ℕ) → List ℕ
-bench_numbers late value moves = bench_begin late ++ (value_text value ++ (bench_between ++ decimal moves))
+unfoldable pub bench_numbers : Val → (moves : ℕ) → List ℕ
+bench_numbers value moves = bench_begin ++ (value_text value ++ (bench_between ++ decimal moves))
 
 -- what stands behind them
-unfoldable pub bench_body : (late : Bool) → (name : List ℕ) → List ℕ
-bench_body late name =
-    bench_wires ++ (name ++ (bench_circuit ++ (bench_loop late ++ (bench_told late ++ bench_last))))
+unfoldable pub bench_body : (name : List ℕ) → List ℕ
+bench_body name = bench_wires ++ (name ++ (bench_circuit ++ (bench_loop ++ (bench_told ++ bench_last))))
 
--- the text for a circuit of this name, whose numbers may be late or not, of a program of this value and so many moves
-unfoldable pub bench_text : (late : Bool) → (name : List ℕ) → Val → (moves : ℕ) → List ℕ
-bench_text late name value moves = bench_head ++ (name ++ (bench_numbers late value moves ++ bench_body late name))
+-- the text for a circuit of this name, of a program of this value and so many moves
+unfoldable pub bench_text : (name : List ℕ) → Val → (moves : ℕ) → List ℕ
+bench_text name value moves = bench_head ++ (name ++ (bench_numbers value moves ++ bench_body name))

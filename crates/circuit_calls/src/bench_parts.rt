@@ -16,18 +16,12 @@ module "
 }
 
 /// The end of its name, up to the value.
-pub(crate) fn begin(late: bool) -> &'static [u8]
-    ensures { result.now ≡ bench_begin late }
+pub(crate) fn begin() -> &'static [u8]
+    ensures { result.now ≡ bench_begin }
 {
-    if late {
-        b"_bench;
-  // The value of the program, where bit 64 says overflow, and the moves of its run: each takes the circuit 1 to 131 cycles.
+    b"_bench;
+  // The value of the program, where bit 64 says overflow, and the moves of its run.
   localparam [64:0] RESULT = 65'd"
-    } else {
-        b"_bench;
-  // The value of the program, where bit 64 says overflow, and the moves of its run: a circuit makes one in each cycle.
-  localparam [64:0] RESULT = 65'd"
-    }
 }
 
 /// What is between the value and the moves.
@@ -72,11 +66,10 @@ pub(crate) fn circuit() -> &'static [u8]
 }
 
 /// The run.
-pub(crate) fn run(late: bool) -> &'static [u8]
-    ensures { result.now ≡ bench_loop late }
+pub(crate) fn run() -> &'static [u8]
+    ensures { result.now ≡ bench_loop }
 {
-    if late {
-        b"  // One edge with rst high, and then edges with rst low until the circuit has ended, or there were 131 for each move and for
+    b"  // One edge with rst high, and then edges with rst low until the circuit has ended, or there were 133 for each move and for
   // one more. The outputs are looked at between the edges. Where the bench has failed, $fatal tells whoever runs it.
   initial begin
     clk = 0;
@@ -85,57 +78,31 @@ pub(crate) fn run(late: bool) -> &'static [u8]
     #5 clk = 1;
     #5 clk = 0;
     rst = 0;
-    while (done === 0 && full === 0 && cycles < 131 * (MOVES + 1)) begin
+    while (done === 0 && full === 0 && cycles < 133 * (MOVES + 1)) begin
       #5 clk = 1;
       #5 clk = 0;
       cycles = cycles + 1;
     end
 "
-    } else {
-        b"  // One edge with rst high, and then edges with rst low until the circuit has ended, or there was one more than there are
-  // moves. The outputs are looked at between the edges. Where the bench has failed, $fatal tells whoever runs it.
-  initial begin
-    clk = 0;
-    rst = 1;
-    cycles = 0;
-    #5 clk = 1;
-    #5 clk = 0;
-    rst = 0;
-    while (done === 0 && full === 0 && cycles <= MOVES) begin
-      #5 clk = 1;
-      #5 clk = 0;
-      cycles = cycles + 1;
-    end
-"
-    }
 }
 
 /// What is compared and told.
-pub(crate) fn told(late: bool) -> &'static [u8]
-    ensures { result.now ≡ bench_told late }
+pub(crate) fn told() -> &'static [u8]
+    ensures { result.now ≡ bench_told }
 {
-    if late {
-        b"    if (done === 1 && full === 0 && result === RESULT && moves === MOVES && cycles >= MOVES) begin
+    b"    if (done === 1 && full === 0 && result === RESULT && moves === MOVES) begin
       $display(\"passed\");
       $finish;
     end else begin
-      $display(\"failed: done %b, full %b, result %0d, moves %0d, cycles %0d; wanted 1, 0, %0d, %0d, at least %0d\",
+      $display(\"failed: done %b, full %b, result %0d, moves %0d after %0d cycles; wanted 1, 0, %0d, %0d\",
 "
-    } else {
-        b"    if (done === 1 && full === 0 && result === RESULT && moves === MOVES && cycles === MOVES) begin
-      $display(\"passed\");
-      $finish;
-    end else begin
-      $display(\"failed: done %b, full %b, result %0d, moves %0d, cycles %0d; wanted 1, 0, %0d, %0d, %0d\",
-"
-    }
 }
 
 /// The rest.
 pub(crate) fn last() -> &'static [u8]
     ensures { result.now ≡ bench_last }
 {
-    b"        done, full, result, moves, cycles, RESULT, MOVES, MOVES);
+    b"        done, full, result, moves, cycles, RESULT, MOVES);
       $fatal(0);
     end
   end

@@ -3,9 +3,7 @@ use Rattle.std.proofs.Common.{◌≡◌, ◌∙◌, ◌≤◌, ◌<◌, ◌+◌,
 use Rattle.std.specs.Prelude.{Option, None, IfNone}
 use Rattle.verilog_tree.specs.Tree.{Item}
 use Rattle.verilog_tree.specs.Meaning.{Store, edge, set_vec}
-use Rattle.net_build.specs.Nets.{NetTree}
-use Rattle.cell_module.specs.Sizes.{circuit_of}
-use Rattle.circuit_runs.specs.Running.{run_from, after, Goes, Shows, ShowsLast, ComesOf, Comes}
+use Rattle.circuit_runs.specs.Running.{run_from, after, Goes, Shows, ShowsLast, ComesOf}
 use Rattle.circuit_runs.specs.declared.outcome.Outcome.{Outcome}
 use Rattle.circuit_runs.specs.declared.outcome.Outcome.TheVariants.{Ended, Full, Odd, Waits}
 use Rattle.verilog_run.specs.Held.{nothing}
@@ -87,8 +85,3 @@ last_some T k (Ended v m j) s = s
 last_some T k (Full j) s = s
 last_some T k (Odd j) s = s
 last_some T k Waits s = absurd s
-
--- what a run of the items of a net's module comes to is what one of the net's circuit does
-pub comes_of : (net : NetTree) (cells forks K : ℕ) (is : List Item) (o : Outcome) → is ≡ circuit_of net cells forks → ComesOf is K o →
-    Comes net cells forks K o
-comes_of net cells forks K is o e h = subst (λ js. ComesOf js K o) e h

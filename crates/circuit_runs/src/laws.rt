@@ -2,13 +2,10 @@
 
 ghost use Rattle.circuit_runs.specs.Laws.{ProgramRuns};
 
-/// What a run of the module of a program comes to tells what the program means, at its net's length; or that the cells or the forks
-/// are too few for so many moves; or that its net has no length within so many edges.
+/// What a run of the module of a program comes to tells what the program means, at its net's length, after just as many edges as the rows
+/// with their waits take; or that there is no row or no room for one just then; or that its net is longer, or has no length.
 pub fn law_program_runs()
     ensures { ProgramRuns }
 {
-    cell_means::law_cell_means();
-    cell_means::law_cell_module();
-    cell_module::law_sizes();
-    cell_edges::law_sizes_fit();
+    joined_means::law_joined_program();
 }

@@ -1,9 +1,8 @@
 //! A run of a net's module.
 
 ghost use Rattle.std.specs.Prelude.{◌≡◌, ◌<◌, ◌≤◌, ◌^◌, ℕ, IfOk, OnOk, IfSome, IfNone, map, nat_eq};
-ghost use Rattle.cell_module.specs.Sizes.{circuit_of};
 ghost use Rattle.circuit_module.specs.Stands.{Small, value_number};
-ghost use Rattle.circuit_runs.specs.Running.{after, Comes, ComesOf, Goes, IsDone, Shows, ShowsLast};
+ghost use Rattle.circuit_runs.specs.Running.{after, ComesOf, Goes, IsDone, Shows, ShowsLast};
 ghost use Rattle.verilog_tree.specs.Meaning.{edge as edge_of, scope, set_vec};
 ghost use Rattle.verilog_tree.specs.Names.{text_of};
 ghost use Rattle.verilog_tree.specs.Views.{item_of};
@@ -12,9 +11,6 @@ ghost use Rattle.verilog_run.specs.Scopes.{scope_of};
 
 use crate::numbers::{small, value_of};
 use crate::outcome::Outcome;
-use bumpalo::Bump;
-use circuit_tree::circuit_items;
-use net_build::Net;
 use pcf_values::Val;
 use std::alloc::{AllocError, Global};
 use verilog_run::{Contents, Scene, next_edge};
@@ -142,8 +138,12 @@ fn run_whole(
     run_from(alloc, scene, items, store, cycles)
 }
 
-/// The run of a module's items.
-fn run_items(alloc: Global, items: &[Item<'_>], cycles: u64) -> Result<Outcome, AllocError>
+/// What a run of a module's items comes to, within so many edges after its reset.
+///
+/// # Errors
+///
+/// `AllocError` where there is no memory for what the module holds.
+pub fn run_items(alloc: Global, items: &[Item<'_>], cycles: u64) -> Result<Outcome, AllocError>
     ensures { IfOk result (λ o. ComesOf (map item_of items.now) cycles o) }
 {
     let scene = Scene::new(alloc, items)?;
@@ -151,24 +151,4 @@ fn run_items(alloc: Global, items: &[Item<'_>], cycles: u64) -> Result<Outcome, 
     let told = run_whole(alloc, &scene, items, &mut store, cycles);
     drop(store);
     told
-}
-
-/// What a run of a net's circuit comes to, with so many cells and forks, within so many edges after its reset.
-///
-/// # Errors
-///
-/// `AllocError` where there is no memory for the module or for what it holds.
-pub fn run_circuit(
-    alloc: Global,
-    net: &Net,
-    cells: u32,
-    forks: u32,
-    cycles: u64,
-) -> Result<Outcome, AllocError>
-    ensures { IfOk result (λ o. Comes net.now cells forks cycles o) }
-{
-    let bump = Bump::new(alloc);
-    let items = circuit_items(alloc, &bump, net, cells, forks)?;
-    let told = run_items(alloc, items, cycles)?;
-    Ok(told)
 }

@@ -1,5 +1,5 @@
 -- The states of a dump and of a run are the same, and so both end at the first edge behind which `done` or `full` is up.
-use Rattle.std.proofs.Common.{◌≡◌, ◌≢◌, ◌<◌, ◌≤◌, ◌⊎◌, inl, inr, ℕ, zero, suc, List, refl, sym, ap, subst, ◌∙◌, arith}
+use Rattle.std.proofs.Common.{◌≡◌, ◌<◌, ◌≤◌, ◌⊎◌, inl, inr, ℕ, zero, suc, List, refl, sym, ap, subst, ◌∙◌, arith}
 use Rattle.std.proofs.lemmas.Bool.{cases_order}
 use Rattle.verilog_tree.specs.Tree.{Item}
 use Rattle.verilog_tree.specs.Meaning.{Store, edge, set_vec}

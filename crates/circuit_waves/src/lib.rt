@@ -1,11 +1,9 @@
-//! Writes what the module of a net's circuit does as a text that programs open which show waves.
+//! That the run of a module and its dump go together. Laws alone, no code.
 //!
-//! `push_circuit_waves` makes the module as a tree (`circuit_tree`), and appends the dump of its run (`verilog_waves`). The states that it
-//! shows are those of the run that `circuit_runs` makes, and it has as many edges (`law_same_states`, `law_same_end`).
+//! The states that a dump of `verilog_waves` shows are those of the run that `circuit_runs` makes of the same module, and it has as many
+//! edges (`law_same_states`, `law_same_end`).
 #![tactic(auto)]
 
 mod laws;
-mod waves;
 
 pub use laws::{law_same_end, law_same_states};
-pub use waves::push_circuit_waves;

@@ -98,7 +98,7 @@ abbrev pub IsAskedCircuit : ℕ → ℕ → Type 0
 IsAskedCircuit cells forks = IsCells cells × IsForks forks
 
 abbrev pub circuit_alone : ℕ → ℕ → Verilog
-circuit_alone cells forks = Circuit cells forks false false
+circuit_alone cells forks = Circuit cells forks false
 
 abbrev pub CallsCircuit : List ℕ → ℕ → ℕ → Back → Type 0
 CallsCircuit bytes cells forks b =

@@ -74,7 +74,6 @@ pub extern "C" fn goi_circuit(
             cells,
             forks,
             handshake: false,
-            late: false,
         },
     );
     give_result(alloc, printed, out, needed)

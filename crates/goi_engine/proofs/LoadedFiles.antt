@@ -210,16 +210,16 @@ ground_goes t v bytes s (tree, h) = (tree, program_goes number tree t nat v byte
 -- a fault of the first bytes of a file is one of the file
 pub verilog_fault_goes : (verilog : Verilog) (f : Fault) (v bytes : List ℕ) → Same most_program_bytes v bytes → FaultyVerilog verilog v f →
     FaultyVerilog verilog bytes f
-verilog_fault_goes (Circuit cells forks handshake late) f v bytes s h = any_fault_goes f v bytes s h
-verilog_fault_goes (Bench budget late) f v bytes s h = faulty_goes number f v bytes s h
+verilog_fault_goes (Circuit cells forks handshake) f v bytes s h = any_fault_goes f v bytes s h
+verilog_fault_goes (Bench budget) f v bytes s h = faulty_goes number f v bytes s h
 
 -- and so is a report
 pub verilog_goes : (name : List ℕ) (verilog : Verilog) (o : Output) (v bytes : List ℕ) → Same most_program_bytes v bytes →
     ReportsVerilog name verilog v o → ReportsVerilog name verilog bytes o
-verilog_goes name (Circuit cells forks handshake late) o v bytes s h =
+verilog_goes name (Circuit cells forks handshake) o v bytes s h =
     let (tree, x, is) = h.is in
     record { term = h.term; count = h.count; is = (tree, text_goes v bytes tree s x, is); so = h.so }
-verilog_goes name (Bench budget late) o v bytes s h = of_program_goes number _ v bytes s h
+verilog_goes name (Bench budget) o v bytes s h = of_program_goes number _ v bytes s h
 
 -- ---- the text of a schedule
 

@@ -4,7 +4,7 @@ use Rattle.std.specs.Prelude.{◌≡◌, ℕ, Bool, true, List, Option}
 use Rattle.goi_jobs.specs.Ranges.{IsWorkers, IsBudget, IsDemo, IsWindowIfAny}
 use Rattle.verilog_names.specs.Name.{module_name}
 use Rattle.goi_jobs.specs.Tasks.{IsWithin}
-use Rattle.goi_jobs.specs.Verilogs.{IsPrinted, HasSizes}
+use Rattle.goi_jobs.specs.Verilogs.{IsPrinted}
 use Rattle.goi_jobs.specs.declared.jobs.Job.{Job}
 use Rattle.goi_jobs.specs.declared.jobs.Job.TheVariants as variant
 use Rattle.goi_jobs.specs.declared.task.Task.{Task}
@@ -43,4 +43,4 @@ IsWithinLimits (replay file schedule window) = IsWindowIfAny window
 IsWithinLimits (list file workers) = IsWorkers workers
 IsWithinLimits (demo n workers) = IsDemo n × IsWorkers workers
 IsWithinLimits (call file numbers workers budget schedule tally) = IsWorkers workers × IsBudget budget
-IsWithinLimits (verilog file name v) = (module_name name ≡ true) × IsPrinted v × HasSizes v
+IsWithinLimits (verilog file name v) = (module_name name ≡ true) × IsPrinted v

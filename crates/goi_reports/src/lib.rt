@@ -19,6 +19,6 @@ pub use brief::{demo_report, replay_report};
 pub use check::check_report;
 pub use cycles::cycles_report;
 pub use laws::{law_plain_run, law_report_rows, law_tally_adds_up};
-pub use needs::needs_report;
+pub use needs::{needs_report, no_row_report};
 pub use run::{Parts, run_report};
 pub use span::{PROFILE_ROUNDS, RoundParts, span_report};

@@ -1,4 +1,5 @@
--- The reports that are made of the run of a net as its circuit makes it: of what it needs, of its schedule, and its bench.
+-- The reports that are made of the run of a net with the newest question first, and of the counts of its circuit's: of what the circuit
+-- needs, of the schedule, and its bench.
 use Rattle.std.proofs.Common.{◌≡◌, ℕ, Bool, true, false, List, [], length, Option, sym, ap, ◌∙◌, subst, arith}
 use Rattle.pcf_values.specs.declared.val.Val.{Val}
 use Rattle.pcf_values.specs.Terms.{TermTree}
@@ -6,9 +7,9 @@ use Rattle.cbn_meaning.specs.Meaning.{Means}
 use Rattle.net_build.specs.Nets.{NetTree}
 use Rattle.net_build.specs.NetOf.{net_of}
 use Rattle.interleave_laws.specs.Maps.{MapState, LeadsToMap}
-use Rattle.newest_core.specs.Processor.{reset, newest}
-use Rattle.newest_core.specs.Enough.{forks_peak, cells_peak}
+use Rattle.newest_core.specs.Processor.{newest}
 use Rattle.circuit_needs.proofs.Going.{newest_finished}
+use Rattle.joined_needs.specs.declared.needs.Needs.{Needs}
 use Rattle.schedule_log.specs.declared.entry.Entry.{Entry}
 use Rattle.schedule_log.specs.Logs.{by}
 use Rattle.token_pool.proofs.Moving.{made_by}
@@ -16,11 +17,10 @@ use Rattle.program_runs.specs.declared.calling.Calling.TheVariants.{ByName}
 use Rattle.program_runs.specs.Nets.{RunsAs}
 use Rattle.program_runs.specs.Runs.{Tells}
 use Rattle.goi_reports.specs.Booked.{BookedWithin}
-use Rattle.goi_reports.specs.Needs.{needs_report}
 use Rattle.goi_reports.specs.Reports.{run_report}
 use Rattle.goi_tasks.specs.Outputs.{Output, output}
 use Rattle.goi_tasks.specs.Replaying.{replay_status}
-use Rattle.goi_tasks.specs.Needs.{needs_text, ReportsNeeds, schedule_report, ReportsSchedule}
+use Rattle.goi_tasks.specs.Needs.{CountsNet, counts_text, ReportsNeeds, schedule_report, ReportsSchedule}
 use Rattle.goi_tasks.specs.Verilogs.{bench_report, ReportsBench}
 
 -- the moves of the net's circuit within the budget come to this answer, or none
@@ -41,38 +41,28 @@ counted_tells net budget answer moves many led t is =
     subst (λ (n : NetTree). Tells (Means t) n budget answer moves) is.net_is
     (subst (λ (n : ℕ). Tells (Means t) net budget answer n) (sym many) (tells net budget answer led t is))
 
--- what is known of a run that was counted
-pub record Counted (net : NetTree) (budget : ℕ) (answer : Option Val) (moves cells forks : ℕ) : Type 0 where
-  pub many : moves ≡ length (newest net budget)
-  pub led : Comes net budget answer
-  pub counts_cells : cells ≡ cells_peak net moves (reset net)
-  pub counts_forks : forks ≡ forks_peak net moves (reset net)
-
-module _ (net : NetTree) (budget : ℕ) (answer : Option Val) (moves cells forks : ℕ)
-    (counted : Counted net budget answer moves cells forks) where
-  -- the lines are those of the net's numbers
-  lines_are : needs_report answer moves cells forks ≡ needs_text answer net moves
-  lines_are = ap (λ (n : ℕ). needs_report answer moves n forks) counted.counts_cells
-      ∙ ap (λ (n : ℕ). needs_report answer moves (cells_peak net moves (reset net)) n) counted.counts_forks
-
-  -- the output is that of what each such term's circuit needs
-  pub reports_needs : (status : ℕ) → status ≡ replay_status answer → (text : List ℕ) → text ≡ needs_report answer moves cells forks →
-      (o : Output) → o ≡ output status text [] → (t : TermTree) → RunsAs ByName t net → ReportsNeeds budget t o
-  reports_needs status e text lines o told t is = record {
-    answer = answer;
-    moves = moves;
-    tells = counted_tells net budget answer moves counted.many counted.led t is;
-    ends = ap (λ (x : Output). x.status) told ∙ e;
-    report_is = ap (λ (x : Output). x.report) told ∙ lines ∙ lines_are ∙ ap (λ (n : NetTree). needs_text answer n moves) is.net_is;
-    no_notes = ap (λ (x : Output). x.notes) told;
-  }
+-- the output is that of what each such term's circuit needs
+pub reports_needs : (net : NetTree) (budget : ℕ) (answer : Option Val) (moves : ℕ) → moves ≡ length (newest net budget) →
+    Comes net budget answer → (counts : Needs) → CountsNet budget net counts → (status : ℕ) → status ≡ replay_status answer →
+    (text : List ℕ) → text ≡ counts_text answer moves counts counts.ending → (o : Output) → o ≡ output status text [] →
+    (t : TermTree) → RunsAs ByName t net → ReportsNeeds budget t o
+reports_needs net budget answer moves many led counts counted status e text lines o told t is = record {
+  answer = answer;
+  moves = moves;
+  tells = counted_tells net budget answer moves many led t is;
+  counts = counts;
+  counted = subst (λ (n : NetTree). CountsNet budget n counts) is.net_is counted;
+  ends = ap (λ (x : Output). x.status) told ∙ e;
+  report_is = ap (λ (x : Output). x.report) told ∙ lines;
+  no_notes = ap (λ (x : Output). x.notes) told;
+}
 
 -- the output is that of the bench of each such term's circuit
-pub reports_bench : (name : List ℕ) (net : NetTree) (budget : ℕ) (late : Bool) (answer : Option Val) (moves : ℕ) →
+pub reports_bench : (name : List ℕ) (net : NetTree) (budget : ℕ) (answer : Option Val) (moves : ℕ) →
     moves ≡ length (newest net budget) → Comes net budget answer → (status : ℕ) → status ≡ replay_status answer →
-    (text : List ℕ) → text ≡ bench_report name late answer moves → (o : Output) → o ≡ output status text [] →
-    (t : TermTree) → RunsAs ByName t net → ReportsBench name budget late t o
-reports_bench name net budget late answer moves many led status e text lines o told t is = record {
+    (text : List ℕ) → text ≡ bench_report name answer moves → (o : Output) → o ≡ output status text [] →
+    (t : TermTree) → RunsAs ByName t net → ReportsBench name budget t o
+reports_bench name net budget answer moves many led status e text lines o told t is = record {
   answer = answer;
   moves = moves;
   tells = counted_tells net budget answer moves many led t is;

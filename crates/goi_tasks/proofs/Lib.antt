@@ -7,9 +7,11 @@ pub mod Outcomes
 pub mod RunReports
 -- The report that is made of a run in rounds.
 pub mod Spanned
--- The reports that are made of a run as a circuit makes it.
+-- The reports that are made of a run with the newest question first, and of what a circuit needs.
 pub mod Counted
--- What the run of a program's circuit tells, and that it ends with one status.
+-- The text of a function's circuit, as the code makes it of the function's net.
+pub mod Circuits
+-- What the run of a program's circuit tells.
 pub mod CircuitRuns
 -- The reduction of a tree as the output for its text, and what it is worth.
 pub mod Reduced

@@ -41,7 +41,6 @@ use Rattle.goi_jobs.specs.declared.task.Task.{Task}
 use Rattle.goi_jobs.specs.declared.task.Task.TheVariants.{Run, Check, ShowNet, RunNet, Trace, RunCircuit}
 use Rattle.goi_jobs.specs.declared.task.Task.TheVariants.{NeedsCircuit, ScheduleCircuit, Span, Steps}
 use Rattle.circuit_runs.specs.Running.{Comes}
-use Rattle.circuit_runs.specs.Laws.{CircuitTells}
 use Rattle.goi_tasks.specs.Circuits.{answer_of}
 use Rattle.goi_tasks.specs.NetFiles.{FaultyListing, unlisted}
 use Rattle.goi_tasks.specs.Outputs.{Output}
@@ -51,7 +50,6 @@ use Rattle.goi_tasks.specs.Reductions.{reduction}
 use Rattle.goi_tasks.specs.Rounds.{TellsSpan, ReportsRounds}
 use Rattle.goi_tasks.specs.RunReports.{ReportsNet, ReportsWalk, EndsRun}
 use Rattle.goi_tasks.specs.Tasks.{ReportsText, FaultyFor, EndsText}
-use Rattle.goi_tasks.proofs.CircuitRuns.{one_circuit_end}
 
 -- ---- the laws of the crates below that settle it
 
@@ -209,10 +207,8 @@ module _ (known : Known) where
   text_end workers (RunCircuit cells forks budget waves) bytes o own h k =
       let e : h.term ≡ k.term = same_program known.one_program number bytes _ _ h k in
       h.so.ends
-      ∙ one_circuit_end k.term cells forks budget h.so.outcome k.so.outcome
-      (subst (λ (t : TermTree). Comes (net_of t) cells forks budget h.so.outcome) e h.so.comes)
-      (subst (λ (t : TermTree). CircuitTells t cells forks budget h.so.outcome) e h.so.tells) k.so.comes k.so.tells
-      ∙ sym k.so.ends
+      ∙ sym (k.so h.so.outcome
+      (subst (λ (t : TermTree). Comes (net_of t) cells forks budget h.so.outcome) e (h.so.items, h.so.circuit, h.so.comes)))
   text_end workers (NeedsCircuit budget) bytes o own h k =
       program_end budget bytes _ h.so.answer h.so.moves o.status own h h.so.ends h.so.tells k
   text_end workers (ScheduleCircuit budget) bytes o own h k =

@@ -1,16 +1,18 @@
 -- A run of a program's circuit, by what its Verilog means: what it says of the program, and what is told of it.
 -- How the module runs stands in `circuit_runs`: an edge with `rst` up over registers that hold 0, and then edges until `done` or `full`.
+-- Which rows the circuit has is the search's, of those that are right. So what a run comes to is settled by the module, and by the program
+-- as far as each of its circuits comes to the same.
 use Rattle.std.specs.Prelude.{◌≡◌, ℕ, suc, Bool, true, false, List, [], Option, None, Some}
 use Rattle.pcf_values.specs.declared.val.Val.{Val}
 use Rattle.pcf_values.specs.Terms.{TermTree}
 use Rattle.net_build.specs.NetOf.{net_of}
 use Rattle.verilog_tree.specs.Tree.{Item}
 use Rattle.verilog_waves.specs.Dump.{dump}
-use Rattle.cell_module.specs.Sizes.{circuit_of}
+use Rattle.circuit_made.specs.Made.{CircuitOf, room}
 use Rattle.circuit_runs.specs.declared.outcome.Outcome.{Outcome}
 use Rattle.circuit_runs.specs.declared.outcome.Outcome.TheVariants.{Ended, Full, Odd, Waits}
-use Rattle.circuit_runs.specs.Running.{Comes}
-use Rattle.circuit_runs.specs.Laws.{CircuitTells}
+use Rattle.circuit_runs.specs.Running.{Comes, ComesOf}
+use Rattle.circuit_runs.specs.Laws.{TableTells}
 use Rattle.circuit_waves.specs.Laws.{edges_of}
 use Rattle.goi_reports.specs.Cycles.{cycles_report}
 use Rattle.goi_tasks.specs.Outputs.{Output}
@@ -23,7 +25,7 @@ answer_of (Full k) = None
 answer_of (Odd k) = None
 answer_of Waits = None
 
--- it ended since the cells or the forks were too few
+-- it ended since the cells or the forks were too few, or since there was no row
 abbrev pub is_full : Outcome → Bool
 is_full (Ended v moves k) = false
 is_full (Full k) = true
@@ -38,16 +40,16 @@ IsTold true items most outcome text = text ≡ dump "goi" items (suc (edges_of m
 -- The output of the run of a program's circuit, with so many cells and forks, within so many cycles. What comes of the
 -- module is what comes of it by the meaning of Verilog, and it tells what the program means.
 pub record ReportsCircuit (cells forks budget : ℕ) (waves : Bool) (t : TermTree) (o : Output) : Type 0 where
+  pub items : List Item
+  pub circuit : CircuitOf (net_of t) [] (room cells forks) items
   pub outcome : Outcome
-  pub comes : Comes (net_of t) cells forks budget outcome
-  pub tells : CircuitTells t cells forks budget outcome
+  pub comes : ComesOf items budget outcome
+  pub tells : TableTells t circuit.sites circuit.entries (room cells forks) budget outcome
   pub ends : o.status ≡ replay_status (answer_of outcome)
-  pub told : IsTold waves (circuit_of (net_of t) cells forks) budget outcome o.report
+  pub told : IsTold waves items budget outcome o.report
   pub no_notes : o.notes ≡ []
 
--- such a run ends with this status
-pub record EndsCircuit (cells forks budget : ℕ) (t : TermTree) (status : ℕ) : Type 0 where
-  pub outcome : Outcome
-  pub comes : Comes (net_of t) cells forks budget outcome
-  pub tells : CircuitTells t cells forks budget outcome
-  pub ends : status ≡ replay_status (answer_of outcome)
+-- each circuit of the program, with so many cells and forks, ends with this status
+abbrev pub EndsCircuit : (cells forks budget : ℕ) → TermTree → ℕ → Type 0
+EndsCircuit cells forks budget t status =
+    (outcome : Outcome) → Comes (net_of t) cells forks budget outcome → status ≡ replay_status (answer_of outcome)

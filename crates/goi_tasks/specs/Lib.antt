@@ -20,7 +20,7 @@ pub mod Rounds
 pub mod Reductions
 -- A run of a program's circuit: what it says of the program, and its report.
 pub mod Circuits
--- The run of a program as its circuit makes it: what it says of the program, and its reports.
+-- What a program's circuit needs, and the run with the newest question first: what each says of the program, and its report.
 pub mod Needs
 -- A schedule that is run on the net of a term: what it came to, which report it has, and the first fault of one that can't be run.
 pub mod Replaying

@@ -1,35 +1,55 @@
--- The run of a program as its circuit makes it, the newest question first: what it says of the program, and which report it has, where what
--- the circuit needs is counted, and where its schedule is told.
--- What that run is, and how many cells are in use and forks open at once in it, stands in `newest_core`.
+-- What a program's circuit needs, and the run with the newest question first: what each says of the program, and which report it has.
+-- How a circuit's edges are counted stands in `joined_needs`: whatever room they take, by the rows of a table that is right of the net and
+-- fits the most cells and forks that can be asked for. Where that table has no row for what the run meets, just that is told beside the
+-- program's answer. The run with the newest question first is one token's at a time, in the order in which a circuit moves; what it is
+-- stands in `newest_core`.
 use Rattle.std.specs.Prelude.{◌≡◌, ℕ, true, false, List, [], length, Option}
 use Rattle.pcf_values.specs.declared.val.Val.{Val}
 use Rattle.pcf_values.specs.Terms.{TermTree}
 use Rattle.cbn_meaning.specs.Meaning.{Means}
 use Rattle.net_build.specs.Nets.{NetTree}
 use Rattle.net_build.specs.NetOf.{net_of}
-use Rattle.newest_core.specs.Processor.{reset, newest}
-use Rattle.newest_core.specs.Enough.{forks_peak, cells_peak}
+use Rattle.newest_core.specs.Processor.{newest}
+use Rattle.joined_module.specs.Module.{ModuleTable}
+use Rattle.joined_numbers.specs.At.{number_at}
+use Rattle.circuit_made.specs.Made.{TableOf, room}
+use Rattle.joined_needs.specs.Told.{NeedsTold}
+use Rattle.joined_needs.specs.declared.needs.Ending.{Ending}
+use Rattle.joined_needs.specs.declared.needs.Ending.TheVariants.{Answered, NoRow, Beyond}
+use Rattle.joined_needs.specs.declared.needs.Needs.{Needs}
 use Rattle.schedule_log.specs.Logs.{by}
 use Rattle.program_runs.specs.Runs.{Tells}
-use Rattle.goi_reports.specs.Needs.{needs_report}
+use Rattle.goi_jobs.specs.Limits.{most_cells, most_forks}
+use Rattle.goi_reports.specs.Needs.{needs_report, no_row_report}
 use Rattle.goi_reports.specs.Reports.{run_report}
 use Rattle.goi_tasks.specs.Outputs.{Output}
 use Rattle.goi_tasks.specs.Replaying.{replay_status}
 
--- the report of what a net's circuit needs for so many moves, which come to this answer, or none
-abbrev pub needs_text : Option Val → NetTree → ℕ → List ℕ
-needs_text answer net moves = needs_report answer moves (cells_peak net moves (reset net)) (forks_peak net moves (reset net))
+-- these are the counts of a run of the net's circuit within a budget of moves
+pub record CountsNet (budget : ℕ) (net : NetTree) (n : Needs) : Type 0 where
+  pub table : ModuleTable
+  pub is : TableOf net [] (room most_cells most_forks) table
+  pub told : NeedsTold (number_at []) table budget n
+
+-- the report of a program's run, with the counts of its circuit's, which ends so
+abbrev pub counts_text : Option Val → (moves : ℕ) → Needs → Ending → List ℕ
+counts_text answer moves n (Answered v) = needs_report answer moves n.cells n.forks n.cycles
+counts_text answer moves n NoRow = no_row_report answer moves
+counts_text answer moves n Beyond = needs_report answer moves n.cells n.forks n.cycles
 
 -- the output of what a program's circuit needs within a budget of moves
 pub record ReportsNeeds (budget : ℕ) (t : TermTree) (o : Output) : Type 0 where
   pub answer : Option Val
   pub moves : ℕ
   pub tells : Tells (Means t) (net_of t) budget answer moves
+  pub counts : Needs
+  pub counted : CountsNet budget (net_of t) counts
   pub ends : o.status ≡ replay_status answer
-  pub report_is : o.report ≡ needs_text answer (net_of t) moves
+  pub report_is : o.report ≡ counts_text answer moves counts counts.ending
   pub no_notes : o.notes ≡ []
 
--- the report of the moves of a net's circuit within a budget, which come to this answer, or none: as that of a run with its schedule
+-- the report of a net's run with the newest question first within a budget, which comes to this answer, or none: as that of a run with its
+-- schedule
 abbrev pub schedule_report : Option Val → NetTree → ℕ → List ℕ
 schedule_report answer net budget = run_report answer (by 0 (newest net budget)) 1 true false
 

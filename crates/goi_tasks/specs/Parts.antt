@@ -9,8 +9,9 @@ use Rattle.pcf_values.specs.Named.{NamedTree}
 use Rattle.pcf_types.specs.Checking.{type_of}
 use Rattle.goi_jobs.specs.declared.window.Window.{Window}
 use Rattle.circuit_runs.specs.declared.outcome.Outcome.{Outcome}
-use Rattle.circuit_runs.specs.Running.{Comes}
-use Rattle.cell_module.specs.Sizes.{circuit_of}
+use Rattle.verilog_tree.specs.Tree.{Item}
+use Rattle.circuit_made.specs.Made.{CircuitOf, room}
+use Rattle.circuit_runs.specs.Running.{ComesOf}
 use Rattle.goi_tasks.specs.Circuits.{IsTold, answer_of}
 use Rattle.goi_tasks.specs.Outputs.{Output}
 use Rattle.goi_tasks.specs.Reductions.{ReportsSteps}
@@ -31,10 +32,12 @@ pub record IsListedNet (bytes : List ℕ) (net : NetTree) : Type 0 where
 
 -- this is the output of the run of the net's circuit
 pub record IsCircuitRun (net : NetTree) (cells forks budget : ℕ) (waves : Bool) (o : Output) : Type 0 where
+  pub items : List Item
+  pub circuit : CircuitOf net [] (room cells forks) items
   pub outcome : Outcome
-  pub comes : Comes net cells forks budget outcome
+  pub comes : ComesOf items budget outcome
   pub ends : o.status ≡ replay_status (answer_of outcome)
-  pub told : IsTold waves (circuit_of net cells forks) budget outcome o.report
+  pub told : IsTold waves items budget outcome o.report
   pub no_notes : o.notes ≡ []
 
 -- the tree is a program of type `nat`, and this is the output of its reduction

@@ -1,7 +1,9 @@
 -- What is printed of Verilog for a text: the circuit of its function, alone or with the module by which it is called, and the bench of its
 -- program: the output, the first fault of a text for which it can't be printed, and the status with which it ends. The circuit's module has
 -- the name that is given.
--- The texts of a circuit, of the module by which it is called and of a bench stand in `circuit_text` and `circuit_calls`.
+-- The texts of a circuit, of the module by which it is called and of a bench stand in `circuit_printed` and `circuit_calls`. A circuit has
+-- whichever rows the search finds of those that are right, so a text isn't settled by its function; what the circuit does is, as far as it
+-- has rows.
 use Rattle.std.specs.Prelude.{◌≡◌, ℕ, Bool, List, [], ◌++◌, replicate, Option, None, Some}
 use Rattle.pcf_values.specs.declared.val.Val.{Val}
 use Rattle.pcf_values.specs.Terms.{TermTree}
@@ -10,7 +12,8 @@ use Rattle.net_build.specs.NetOf.{net_of}
 use Rattle.open_net_laws.specs.Applied.{applied}
 use Rattle.open_net_laws.specs.Numbers.{places}
 use Rattle.verilog_tree.specs.Names.{text_of}
-use Rattle.circuit_text.specs.CircuitText.{circuit_text}
+use Rattle.circuit_made.specs.Made.{room}
+use Rattle.circuit_printed.specs.CircuitText.{Prints}
 use Rattle.circuit_calls.specs.CallText.{call_text}
 use Rattle.circuit_calls.specs.BenchText.{bench_text}
 use Rattle.program_runs.specs.Programs.{number, OfProgram}
@@ -25,44 +28,49 @@ use Rattle.goi_tasks.specs.Programs.{FaultyText}
 use Rattle.goi_tasks.specs.Replaying.{replay_status}
 use Rattle.goi_tasks.specs.RunReports.{EndsRun}
 
--- the circuit of a function of so many numbers, which are late or not, made of its net at zeros: each of these gets a port, and so does
--- none of a program's
-abbrev pub function_circuit : (name : List ℕ) → (late : Bool) → (cells forks : ℕ) → TermTree → ℕ → List ℕ
-function_circuit name late cells forks t n =
-    circuit_text (text_of name) late (net_of (applied t (replicate n 0))) cells forks (places t n)
+-- a text is that of the circuit of a function of so many numbers, made of its net at zeros: each of these gets a port, and so does none of
+-- a program's
+abbrev pub PrintsFunction : (name : List ℕ) → (cells forks : ℕ) → TermTree → ℕ → List ℕ → Type 0
+PrintsFunction name cells forks t n text =
+    Prints (text_of name) (net_of (applied t (replicate n 0))) (places t n) (room cells forks) text
 
 -- behind it, where that is asked for, the module by which it is called
-abbrev pub circuit_and_call : (name : List ℕ) → (cells forks : ℕ) → (handshake late : Bool) → TermTree → ℕ → List ℕ
-circuit_and_call name cells forks handshake late t n =
-    function_circuit name late cells forks t n ++ where_asked handshake (call_text name n)
+pub record PrintsModules (name : List ℕ) (cells forks : ℕ) (handshake : Bool) (t : TermTree) (n : ℕ) (text : List ℕ) : Type 0 where
+  pub circuit : List ℕ
+  pub prints : PrintsFunction name cells forks t n circuit
+  pub text_is : text ≡ circuit ++ where_asked handshake (call_text name n)
 
--- the bench of a run with this answer after so many moves, for a circuit whose numbers are late or not; without an answer there is none,
--- and what a run tells is told
-abbrev pub bench_report : (name : List ℕ) → (late : Bool) → Option Val → (moves : ℕ) → List ℕ
-bench_report name late (Some v) moves = bench_text late name v moves
-bench_report name late None moves = replay_report None moves
+-- the output of a function's circuit
+pub record ReportsModules (name : List ℕ) (cells forks : ℕ) (handshake : Bool) (t : TermTree) (n : ℕ) (o : Output) : Type 0 where
+  pub text : List ℕ
+  pub prints : PrintsModules name cells forks handshake t n text
+  pub output_is : o ≡ output 0 text []
+
+-- the bench of a run with this answer after so many moves; without an answer there is none, and what a run tells is told
+abbrev pub bench_report : (name : List ℕ) → Option Val → (moves : ℕ) → List ℕ
+bench_report name (Some v) moves = bench_text name v moves
+bench_report name None moves = replay_report None moves
 
 -- the output of a term's bench, whose run is allowed so many moves
-pub record ReportsBench (name : List ℕ) (budget : ℕ) (late : Bool) (t : TermTree) (o : Output) : Type 0 where
+pub record ReportsBench (name : List ℕ) (budget : ℕ) (t : TermTree) (o : Output) : Type 0 where
   pub answer : Option Val
   pub moves : ℕ
   pub tells : Tells (Means t) (net_of t) budget answer moves
   pub ends : o.status ≡ replay_status answer
-  pub report_is : o.report ≡ bench_report name late answer moves
+  pub report_is : o.report ≡ bench_report name answer moves
   pub no_notes : o.notes ≡ []
 
 -- the output for the text
 abbrev pub ReportsVerilog : (name : List ℕ) → Verilog → List ℕ → Output → Type 0
-ReportsVerilog name (Circuit cells forks handshake late) bytes o =
-    OfAnyFunction bytes (λ t n. o ≡ output 0 (circuit_and_call name cells forks handshake late t n) [])
-ReportsVerilog name (Bench budget late) bytes o = OfProgram number bytes (λ tree t A. ReportsBench name budget late t o)
+ReportsVerilog name (Circuit cells forks handshake) bytes o = OfAnyFunction bytes (λ t n. ReportsModules name cells forks handshake t n o)
+ReportsVerilog name (Bench budget) bytes o = OfProgram number bytes (λ tree t A. ReportsBench name budget t o)
 
 -- the first fault of a text for which it can't be printed
 abbrev pub FaultyVerilog : Verilog → List ℕ → Fault → Type 0
-FaultyVerilog (Circuit cells forks handshake late) bytes f = FaultyAnyFunction bytes f
-FaultyVerilog (Bench budget late) bytes f = FaultyText number bytes f
+FaultyVerilog (Circuit cells forks handshake) bytes f = FaultyAnyFunction bytes f
+FaultyVerilog (Bench budget) bytes f = FaultyText number bytes f
 
 -- it can be printed for the text, and ends with this status
 abbrev pub EndsVerilog : Verilog → List ℕ → ℕ → Type 0
-EndsVerilog (Circuit cells forks handshake late) bytes status = OfAnyFunction bytes (λ t n. status ≡ 0)
-EndsVerilog (Bench budget late) bytes status = OfProgram number bytes (λ tree t A. EndsRun budget (net_of t) status)
+EndsVerilog (Circuit cells forks handshake) bytes status = OfAnyFunction bytes (λ t n. status ≡ 0)
+EndsVerilog (Bench budget) bytes status = OfProgram number bytes (λ tree t A. EndsRun budget (net_of t) status)

@@ -24,21 +24,20 @@ use pcf_values::Val;
 use program_runs::{Calling, net_for};
 use std::alloc::{AllocError, Global};
 
-/// The bench of the circuit of a text's program, whose type is `nat` and whose circuit's module has this name and numbers that are late or
-/// not: the run is allowed so many moves.
+/// The bench of the circuit of a text's program, whose type is `nat` and whose circuit's module has this name: the run is allowed so many
+/// moves.
 pub(crate) fn report_bench(
     alloc: Global,
     bytes: &[u8],
     name: &[u8],
     budget: u32,
-    late: bool,
 ) -> Result<Report, Stop>
     requires budget { IsBudget budget }
-    ensures report { IfOk result (λ r. ReportsVerilog name.now (Bench budget late) bytes.now (output_of r)) }
+    ensures report { IfOk result (λ r. ReportsVerilog name.now (Bench budget) bytes.now (output_of r)) }
     ensures fault { IfErr result (λ e. StopsFor (FaultyText number bytes.now) e) }
 {
     let net = net_for(alloc, bytes, Calling::ByName)?;
-    let report = report_net_bench(alloc, &net, name, budget, late);
+    let report = report_net_bench(alloc, &net, name, budget);
     drop(net);
     Ok(report?)
 }
@@ -49,14 +48,13 @@ fn report_net_bench(
     net: &Net,
     name: &[u8],
     budget: u32,
-    late: bool,
 ) -> Result<Report, AllocError>
     requires runs { Runs net.now }
     requires budget { IsBudget budget }
-    ensures { IfOk result (λ r. (t : TermTree) → RunsAs ByName t net.now → ReportsBench name.now budget late t (output_of r)) }
+    ensures { IfOk result (λ r. (t : TermTree) → RunsAs ByName t net.now → ReportsBench name.now budget t (output_of r)) }
 {
     let needs = circuit_needs(alloc, net, budget)?;
-    let text = bench_of(alloc, name, needs.answer, needs.moves, late)?;
+    let text = bench_of(alloc, name, needs.answer, needs.moves)?;
     Ok(plain(alloc, text, status_of(needs.answer)))
 }
 
@@ -66,12 +64,11 @@ fn bench_of(
     name: &[u8],
     answer: Option<Val>,
     moves: u32,
-    late: bool,
 ) -> Result<Vec<u8>, AllocError>
-    ensures { IfOk result (λ v. v.items ≡ bench_report name.now late answer moves) }
+    ensures { IfOk result (λ v. v.items ≡ bench_report name.now answer moves) }
 {
     match answer {
-        Some(value) => print_bench(alloc, name, value, moves, late),
+        Some(value) => print_bench(alloc, name, value, moves),
         None => replay_report(alloc, None, moves),
     }
 }

@@ -1,8 +1,8 @@
 //! The run of a program's circuit.
 
-ghost use Rattle.std.specs.Prelude.{◌≡◌, ◌++◌, ℕ, suc, IfOk, IfErr, OnOk};
-ghost use Rattle.cell_module.specs.Sizes.{circuit_of};
-ghost use Rattle.circuit_runs.specs.Running.{Comes};
+ghost use Rattle.std.specs.Prelude.{◌≡◌, ◌++◌, ℕ, suc, IfOk, IfErr, OnOk, map};
+ghost use Rattle.verilog_tree.specs.Views.{item_of};
+ghost use Rattle.circuit_runs.specs.Running.{ComesOf};
 ghost use Rattle.circuit_waves.specs.Laws.{edges_of};
 ghost use Rattle.verilog_waves.specs.Dump.{dump};
 ghost use Rattle.goi_jobs.specs.Ranges.{IsCells, IsForks};
@@ -18,16 +18,17 @@ ghost use Rattle.program_runs.specs.Programs.{number};
 use crate::report::{Report, plain};
 use crate::running::status_of;
 use crate::stop::Stop;
-use circuit_lists::law_lists;
-use circuit_runs::{Outcome, law_program_runs, run_circuit};
-use circuit_waves::{law_same_end, push_circuit_waves};
+use bumpalo::Bump;
+use circuit_made::circuit_items;
+use circuit_runs::{Outcome, law_program_runs, run_items};
+use circuit_waves::law_same_end;
 use goi_reports::cycles_report;
-use net_build::{Net, law_net_size};
-use pcf_reader::law_bounded;
-use pcf_types::law_keeps_size;
+use net_build::Net;
 use pcf_values::Val;
 use program_runs::{Calling, net_for};
 use std::alloc::{AllocError, Global};
+use verilog_tree::Item;
+use verilog_waves::push_waves;
 
 /// Which circuit of a program runs, for how long, and what is told of it.
 #[derive(Clone, Copy)]
@@ -55,10 +56,6 @@ pub(crate) fn report_circuit_run(
     ensures fault { IfErr result (λ e. StopsFor (FaultyText number bytes.now) e) }
 {
     law_program_runs();
-    law_bounded();
-    law_keeps_size();
-    law_net_size();
-    law_lists();
     let net = net_for(alloc, bytes, Calling::ByName)?;
     let report = report_net_run(alloc, &net, run);
     drop(net);
@@ -67,25 +64,29 @@ pub(crate) fn report_circuit_run(
 
 /// What the run of a net's circuit comes to.
 fn report_net_run(alloc: Global, net: &Net, run: CircuitRun) -> Result<Report, AllocError>
+    requires cells { IsCells run.cells }
+    requires forks { IsForks run.forks }
     ensures { IfOk result (λ r. IsCircuitRun net.now run.cells run.forks run.budget run.waves (output_of r)) }
 {
-    let told = run_circuit(alloc, net, run.cells, run.forks, run.budget.into())?;
-    let text = told_text(alloc, net, run, told)?;
+    let bump = Bump::new(alloc);
+    let items = circuit_items(alloc, &bump, net, &[], run.cells, run.forks)?;
+    let told = run_items(alloc, items, run.budget.into())?;
+    let text = told_text(alloc, items, run, told)?;
     Ok(plain(alloc, text, status_of(answer_of(told))))
 }
 
-/// What is told of a run that came to this.
-fn told_text(
+/// What is told of a run of a module that came to this.
+fn told_text<'a>(
     alloc: Global,
-    net: &Net,
+    items: &'a [Item<'a>],
     run: CircuitRun,
     told: Outcome,
 ) -> Result<Vec<u8>, AllocError>
-    requires { Comes net.now run.cells run.forks run.budget told }
-    ensures { IfOk result (λ v. IsTold run.waves (circuit_of net.now run.cells run.forks) run.budget told v.items) }
+    requires { ComesOf (map item_of items.now) run.budget told }
+    ensures { IfOk result (λ v. IsTold run.waves (map item_of items.now) run.budget told v.items) }
 {
     if run.waves {
-        waves_text(alloc, net, run, told)
+        waves_text(alloc, items, run, told)
     } else {
         cycles_report(
             alloc,
@@ -96,35 +97,35 @@ fn told_text(
     }
 }
 
-/// What the module holds in a run that came to this, edge by edge.
-fn waves_text(
+/// What a module holds in a run that came to this, edge by edge.
+fn waves_text<'a>(
     alloc: Global,
-    net: &Net,
+    items: &'a [Item<'a>],
     run: CircuitRun,
     told: Outcome,
 ) -> Result<Vec<u8>, AllocError>
-    requires { Comes net.now run.cells run.forks run.budget told }
-    ensures { IfOk result (λ v. v.items ≡ dump "goi" (circuit_of net.now run.cells run.forks) (suc (edges_of run.budget told))) }
+    requires { ComesOf (map item_of items.now) run.budget told }
+    ensures { IfOk result (λ v. v.items ≡ dump "goi" (map item_of items.now) (suc (edges_of run.budget told))) }
 {
     let mut text = Vec::new(alloc);
-    push_waves(alloc, &mut text, net, run, told)?;
+    push_dump(alloc, &mut text, items, run, told)?;
     Ok(text)
 }
 
-/// Appends what the module holds in a run that came to this, edge by edge.
-fn push_waves(
+/// Appends what a module holds in a run that came to this, edge by edge.
+fn push_dump<'a>(
     alloc: Global,
     text: &mut Vec<u8>,
-    net: &Net,
+    items: &'a [Item<'a>],
     run: CircuitRun,
     told: Outcome,
 ) -> Result<(), AllocError>
-    requires { Comes net.now run.cells run.forks run.budget told }
+    requires { ComesOf (map item_of items.now) run.budget told }
     ensures { OnOk result (text.new.items ≡ text.old.items
-        ++ dump "goi" (circuit_of net.now run.cells run.forks) (suc (edges_of run.budget told))) }
+        ++ dump "goi" (map item_of items.now) (suc (edges_of run.budget told))) }
 {
     law_same_end();
-    push_circuit_waves(alloc, text, net, run.cells, run.forks, run.budget.into())?;
+    push_waves(alloc, text, b"goi", items, run.budget.into())?;
     Ok(())
 }
 
@@ -148,7 +149,7 @@ fn edges_of(most: u32, told: Outcome) -> u64
     }
 }
 
-/// Whether it ended since the cells or the forks were too few.
+/// Whether it ended since the cells or the forks were too few, or since there was no row.
 fn is_full(told: Outcome) -> bool
     ensures { result ≡ is_full told }
 {

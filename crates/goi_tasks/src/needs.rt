@@ -1,4 +1,4 @@
-//! The reports of a program's run as its circuit makes it: what the circuit needs, and who moves.
+//! What a program's circuit needs, and who moves in a run with the newest question first.
 
 ghost use Rattle.std.specs.Prelude.{◌≡◌, ℕ, true, false, IfOk, IfErr};
 ghost use Rattle.pcf_values.specs.Terms.{TermTree};
@@ -11,7 +11,7 @@ ghost use Rattle.program_runs.specs.Programs.{number};
 ghost use Rattle.goi_reports.specs.Booked.{BookedWithin};
 ghost use Rattle.goi_reports.specs.Reports.{run_report};
 ghost use Rattle.goi_tasks.specs.Seen.{output_of};
-ghost use Rattle.goi_tasks.specs.Needs.{ReportsNeeds, ReportsSchedule};
+ghost use Rattle.goi_tasks.specs.Needs.{CountsNet, ReportsNeeds, ReportsSchedule, counts_text};
 ghost use Rattle.goi_tasks.specs.Programs.{FaultyText};
 ghost use Rattle.goi_tasks.specs.Stops.{StopsFor};
 ghost use Rattle.goi_tasks.specs.Tasks.{ReportsText};
@@ -19,9 +19,14 @@ ghost use Rattle.goi_tasks.specs.Tasks.{ReportsText};
 use crate::report::{Report, plain};
 use crate::running::status_of;
 use crate::stop::Stop;
+use bumpalo::Bump;
+use circuit_made::make_table;
 use circuit_needs::{Scheduled, circuit_needs, circuit_schedule};
-use goi_reports::{Parts, needs_report, run_report};
+use goi_jobs::{MOST_CELLS, MOST_FORKS};
+use goi_reports::{Parts, needs_report, no_row_report, run_report};
+use joined_needs::{Ending, Needs, joined_needs};
 use net_build::Net;
+use pcf_values::Val;
 use program_runs::{Calling, net_for};
 use std::alloc::{AllocError, Global};
 
@@ -44,8 +49,41 @@ fn report_counted(alloc: Global, net: &Net, budget: u32) -> Result<Report, Alloc
     ensures { IfOk result (λ r. (t : TermTree) → RunsAs ByName t net.now → ReportsNeeds budget t (output_of r)) }
 {
     let needs = circuit_needs(alloc, net, budget)?;
-    let text = needs_report(alloc, needs.answer, needs.moves, needs.cells, needs.forks)?;
+    let counts = count_net(alloc, net, budget)?;
+    let text = text_of(alloc, needs.answer, needs.moves, counts)?;
     Ok(plain(alloc, text, status_of(needs.answer)))
+}
+
+/// The counts of a run of the net's circuit.
+fn count_net(alloc: Global, net: &Net, budget: u32) -> Result<Needs, AllocError>
+    ensures { IfOk result (λ n. CountsNet budget net.now n) }
+{
+    let bump = Bump::new(alloc);
+    let made = make_table(alloc, &bump, net, &[], MOST_CELLS, MOST_FORKS)?;
+    let counts = joined_needs(alloc, made.rows, made.start, &[], budget)?;
+    Ok(counts)
+}
+
+/// The lines of a run with this answer after so many moves, and of the counts of its circuit's run.
+fn text_of(
+    alloc: Global,
+    answer: Option<Val>,
+    moves: u32,
+    counts: Needs,
+) -> Result<Vec<u8>, AllocError>
+    ensures { IfOk result (λ v. v.items ≡ counts_text answer moves counts counts.ending) }
+{
+    match counts.ending {
+        Ending::NoRow => no_row_report(alloc, answer, moves),
+        Ending::Answered(_) | Ending::Beyond => needs_report(
+            alloc,
+            answer,
+            moves,
+            counts.cells,
+            counts.forks,
+            counts.cycles,
+        ),
+    }
 }
 
 /// The report of the schedule by which the circuit of a text's program moves, whose type is `nat`.

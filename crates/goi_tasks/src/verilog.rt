@@ -34,8 +34,7 @@ pub fn report_verilog(
             cells,
             forks,
             handshake,
-            late,
-        } => report_circuit(alloc, bytes, name, cells, forks, handshake, late),
-        Verilog::Bench { budget, late } => report_bench(alloc, bytes, name, budget, late),
+        } => report_circuit(alloc, bytes, name, cells, forks, handshake),
+        Verilog::Bench { budget } => report_bench(alloc, bytes, name, budget),
     }
 }

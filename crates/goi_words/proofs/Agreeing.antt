@@ -467,9 +467,6 @@ module _ (c : CommandRow) (ready : IsReady c) (vs : List Value) (ss : List Setti
       ready.same (findings (final_rows c vs ss)) (given_to c vs ss) (each same_at c.operands ready.own)
       (each same_for c.choices (knows c ready))
 
-  pub fits_as_given : c.fits (findings (final_rows c vs ss)) ≡ c.fits (given_to c vs ss)
-  fits_as_given = ready.fits_same (findings (final_rows c vs ss)) (given_to c vs ss) (each same_for c.choices (knows c ready))
-
   pub all_named : AllByRecursion (IsNamedFor (findings (final_rows c vs ss))) c.choices
   all_named = each named_for c.choices (knows c ready)
 

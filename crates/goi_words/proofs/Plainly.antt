@@ -1,5 +1,5 @@
 -- Plain words of a command are taken, and ask for what they give.
-use Rattle.std.proofs.Common.{◌≡◌, ◌∙◌, ◌∷◌, ◌++◌, ap, cond, refl, sym, subst, append-nil, Bool, true, List, [], None, Some, codes}
+use Rattle.std.proofs.Common.{◌≡◌, ◌∙◌, ◌∷◌, ◌++◌, ap, refl, sym, subst, append-nil, List, [], Some, codes}
 use Rattle.std.specs.List.{AllByRecursion, flat_map}
 use Rattle.clap.specs.Walk.{Text, nothing_held}
 use Rattle.clap.specs.Simple.{filled}
@@ -7,7 +7,7 @@ use Rattle.goi_words.specs.Commands.{CommandRow, choice_rule}
 use Rattle.goi_words.specs.Asked.{findings, job_on}
 use Rattle.goi_words.specs.Laws.{TakesPlainWords}
 use Rattle.goi_words.specs.Plain.{IsPlain, Setting, Value, option_words, setting_words, value_words}
-use Rattle.goi_words.proofs.Agreeing.{all_named, all_there, absent, apart_from, each, final_rows, fits_as_given, job_is_given}
+use Rattle.goi_words.proofs.Agreeing.{all_named, all_there, absent, apart_from, each, final_rows, job_is_given}
 use Rattle.goi_words.proofs.Agreeing.{no_row, plain_rows}
 use Rattle.goi_words.proofs.Entering.{below_job}
 use Rattle.goi_words.proofs.Levels.{Gives, level_ends, level_gives}
@@ -63,9 +63,7 @@ takes_plain_words c ready program vs ss plain =
     let named = subst (λ rows. AllByRecursion (IsNamedFor (findings rows)) c.choices) (sym gives.rows_are)
     (all_named c ready vs ss plain) in
     let rows = final_rows c vs ss in
-    let fits : c.fits (findings rows) ≡ true = fits_as_given c ready vs ss plain ∙ plain.together in
-    let taken = named_has_job c ready words gives.clean named (ap (λ r. c.fits (findings r)) gives.rows_are ∙ fits) in
+    let taken = named_has_job c ready words gives.clean named in
     let there : job_on c.name (final_rows c vs ss) ≡ Some taken.0 = sym (ap (job_on c.name) gives.rows_are) ∙ taken.1 in
-    let whole : job_on c.name rows ≡ c.job (findings rows) =
-    ready.job rows ∙ ap (λ (b : Bool). cond b (c.job (findings rows)) None) fits in
+    let whole : job_on c.name rows ≡ c.job (findings rows) = ready.job rows in
     (taken.0, sym (job_is_given c ready vs ss plain) ∙ sym whole ∙ there, entered ∙ there)

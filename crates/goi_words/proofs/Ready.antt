@@ -9,9 +9,9 @@ use Rattle.clap.specs.Faults.{check_fault, given_default_fault}
 use Rattle.clap.specs.Kinds.{Kinds}
 use Rattle.clap.specs.Takes.{is_given as is_row_given}
 use Rattle.goi_words.specs.Findings.{Findings}
-use Rattle.goi_words.specs.Commands.{Choice, CommandRow, Operand, a_number, a_text, circuit_fits, goi_command, named, numbered}
+use Rattle.goi_words.specs.Commands.{Choice, CommandRow, Operand, a_number, a_text, goi_command, named, numbered}
 use Rattle.goi_words.specs.Commands.{operand_name, some_numbers, subcommand, switch}
-use Rattle.goi_words.specs.Asked.{fitting_job, job_on}
+use Rattle.goi_words.specs.Asked.{findings, job_on}
 use Rattle.goi_jobs.specs.Jobs.{IsWithinLimits, JobTree}
 use Rattle.goi_words.proofs.Operands.{ArePlaced}
 use Rattle.goi_words.proofs.Rows.{HasCleanDefaults, default_row}
@@ -82,7 +82,7 @@ no_fault a = []
 pub record IsReady (c : CommandRow) : Type 0 where
   -- its name enters it, and leads to its job
   pub enters : Enters (built goi_command) c.name (leaf c)
-  pub job : (rows : List Row) → job_on c.name rows ≡ fitting_job c rows
+  pub job : (rows : List Row) → job_on c.name rows ≡ c.job (findings rows)
   -- its arguments are found
   pub placed : ArePlaced (leaf c) 1 c.operands
   pub own : AllByRecursion (IsOwn (leaf c) c.operands) c.operands
@@ -91,9 +91,6 @@ pub record IsReady (c : CommandRow) : Type 0 where
   -- its last check asks for the operands that have to be there, and for nothing else
   pub checked : (rows : List Row) → AllByRecursion (IsThere rows) c.operands → check_fault (leaf c) rows false ≡ []
   pub asks : (rows : List Row) → check_fault (leaf c) rows false ≡ [] → AllByRecursion (IsThere rows) c.operands
-  -- whether what is found goes together hangs on its options alone, and fails for `circuit` alone
-  pub fits_same : (f g : Findings) → AllByRecursion (IsSameFor f g) c.choices → c.fits f ≡ c.fits g
-  pub apart : (f : Findings) → c.fits f ≡ false → (c.name ≡ codes "circuit") × (circuit_fits f ≡ false)
   -- its job is of what is found for its arguments, and within the limits
   pub same : (f g : Findings) → AllByRecursion (IsSameAt f g) c.operands → AllByRecursion (IsSameFor f g) c.choices → c.job f ≡ c.job g
   pub names : list_all (names_circuit c.name) c.choices ≡ true

@@ -55,8 +55,6 @@ run_ready = record {
   defaults = refl;
   checked = λ rows there. rw there.0 refl;
   asks = λ rows clean. ((asked (is_row_given (codes "file") rows) false clean).0, tt);
-  fits_same = λ f g cs. refl;
-  apart = λ f fails. cc;
   same = λ f g os cs. rw (os.0, cs.0, cs.1.0, cs.1.1.0, cs.1.1.1.0, cs.1.1.1.1.0, cs.1.1.1.1.1.0) refl;
   has_job = λ f os cs ns. let file = os.0 in let workers = cs.0 in let budget = cs.1.0 in (
     text file.0 workers.0
@@ -83,8 +81,6 @@ check_ready = record {
   defaults = refl;
   checked = λ rows there. rw there.0 refl;
   asks = λ rows clean. ((asked (is_row_given (codes "file") rows) false clean).0, tt);
-  fits_same = λ f g cs. refl;
-  apart = λ f fails. cc;
   same = λ f g os cs. rw (os.0, cs.0) refl;
   has_job = λ f os cs ns. let file = os.0 in (
     text file.0 1 (Check (f.is_set (codes "term"))),
@@ -110,8 +106,6 @@ net_ready = record {
   defaults = refl;
   checked = λ rows there. rw there.0 refl;
   asks = λ rows clean. ((asked (is_row_given (codes "file") rows) false clean).0, tt);
-  fits_same = λ f g cs. refl;
-  apart = λ f fails. cc;
   same = λ f g os cs. rw (os.0) refl;
   has_job = λ f os cs ns. let file = os.0 in (
     text file.0 1 ShowNet,
@@ -138,8 +132,6 @@ replay_ready = record {
   checked = λ rows there. rw (there.0, there.1.0) refl;
   asks = λ rows clean.
       let both = both_asked (is_row_given (codes "file") rows) (is_row_given (codes "schedule") rows) clean in (both.0, (both.1, tt));
-  fits_same = λ f g cs. refl;
-  apart = λ f fails. cc;
   same = λ f g os cs. rw (os.0, os.1.0, cs.0, cs.1.0, cs.1.1.0) refl;
   has_job = λ f os cs ns. let file = os.0 in let schedule = os.1.0 in let from = cs.1.0 in let most = cs.1.1.0 in (
     replay file.0 schedule.0 (if_traced (f.is_set (codes "trace")) (record { from = from.0; most = most.0 })),
@@ -165,8 +157,6 @@ demo_ready = record {
   defaults = refl;
   checked = λ rows there. rw there.0 refl;
   asks = λ rows clean. ((asked (is_row_given (codes "n") rows) false clean).0, tt);
-  fits_same = λ f g cs. refl;
-  apart = λ f fails. cc;
   same = λ f g os cs. rw (os.0, cs.0) refl;
   has_job = λ f os cs ns. let n = os.0 in let workers = cs.0 in (
     demo n.0 workers.0,
@@ -192,8 +182,6 @@ run_net_ready = record {
   defaults = refl;
   checked = λ rows there. rw there.0 refl;
   asks = λ rows clean. ((asked (is_row_given (codes "file") rows) false clean).0, tt);
-  fits_same = λ f g cs. refl;
-  apart = λ f fails. cc;
   same = λ f g os cs. rw (os.0, cs.0, cs.1.0, cs.1.1.0, cs.1.1.1.0) refl;
   has_job = λ f os cs ns. let file = os.0 in let workers = cs.0 in let budget = cs.1.0 in (
     text file.0 workers.0 (RunNet budget.0 (shown (f.is_set (codes "schedule")) (f.is_set (codes "tally")) false)),
@@ -219,8 +207,6 @@ batch_ready = record {
   defaults = refl;
   checked = λ rows there. rw there.0 refl;
   asks = λ rows clean. ((asked (is_row_given (codes "file") rows) false clean).0, tt);
-  fits_same = λ f g cs. refl;
-  apart = λ f fails. cc;
   same = λ f g os cs. rw (os.0, cs.0) refl;
   has_job = λ f os cs ns. let file = os.0 in let workers = cs.0 in (
     list file.0 workers.0,
@@ -246,8 +232,6 @@ trace_ready = record {
   defaults = refl;
   checked = λ rows there. rw there.0 refl;
   asks = λ rows clean. ((asked (is_row_given (codes "file") rows) false clean).0, tt);
-  fits_same = λ f g cs. refl;
-  apart = λ f fails. cc;
   same = λ f g os cs. rw (os.0, cs.0, cs.1.0, cs.1.1.0, cs.1.1.1.0, cs.1.1.1.1.0) refl;
   has_job = λ f os cs ns.
       let file = os.0 in let workers = cs.0 in let budget = cs.1.0 in let from = cs.1.1.1.0 in let most = cs.1.1.1.1.0 in (
@@ -258,21 +242,21 @@ trace_ready = record {
 }
 
 -- what `circuit` is asked for, by its flags
-abbrev by_flags : (needs scheduled bench run waves handshake late : Bool) (file name : Text) (cells forks budget : ℕ) → JobTree
-by_flags needs scheduled bench run waves handshake late file name cells forks budget =
+abbrev by_flags : (needs scheduled bench run waves handshake : Bool) (file name : Text) (cells forks budget : ℕ) → JobTree
+by_flags needs scheduled bench run waves handshake file name cells forks budget =
     cond needs (text file 1 (NeedsCircuit budget)) (cond scheduled (text file 1 (ScheduleCircuit budget))
-    (cond bench (verilog file name (Bench budget late)) (cond run (text file 1 (RunCircuit cells forks budget waves))
-    (verilog file name (Circuit cells forks handshake late)))))
+    (cond bench (verilog file name (Bench budget)) (cond run (text file 1 (RunCircuit cells forks budget waves))
+    (verilog file name (Circuit cells forks handshake)))))
 
 -- with sizes and a budget in their ranges and the name of a module it is within the limits
-circuit_within : (needs scheduled bench run waves handshake late : Bool) (file name : Text) (cells forks budget : ℕ) → IsCells cells
+circuit_within : (needs scheduled bench run waves handshake : Bool) (file name : Text) (cells forks budget : ℕ) → IsCells cells
     → IsForks forks → IsBudget budget → module_name name ≡ true
-    → IsWithinLimits (by_flags needs scheduled bench run waves handshake late file name cells forks budget)
-circuit_within true scheduled bench run waves handshake late file name cells forks budget s e b is = (one_worker, b)
-circuit_within false true bench run waves handshake late file name cells forks budget s e b is = (one_worker, b)
-circuit_within false false true run waves handshake late file name cells forks budget s e b is = (is, b, tt)
-circuit_within false false false true waves handshake late file name cells forks budget s e b is = (one_worker, (b, s, e))
-circuit_within false false false false waves handshake late file name cells forks budget s e b is = (is, tt, (s, e))
+    → IsWithinLimits (by_flags needs scheduled bench run waves handshake file name cells forks budget)
+circuit_within true scheduled bench run waves handshake file name cells forks budget s e b is = (one_worker, b)
+circuit_within false true bench run waves handshake file name cells forks budget s e b is = (one_worker, b)
+circuit_within false false true run waves handshake file name cells forks budget s e b is = (is, b)
+circuit_within false false false true waves handshake file name cells forks budget s e b is = (one_worker, (b, s, e))
+circuit_within false false false false waves handshake file name cells forks budget s e b is = (is, (s, e))
 
 -- `circuit` is entered by its name
 circuit_enters : Enters (built goi_command) (codes "circuit") (leaf circuit_row)
@@ -296,9 +280,6 @@ circuit_ready = record {
   checked = λ rows there. rw there.0 refl;
   asks = λ rows clean. ((asked (is_row_given (codes "file") rows) false clean).0, tt);
   names = refl;
-  fits_same = λ f g cs.
-      let others = cs.1.1.1 in rw (others.0, others.1.0, others.1.1.0, others.1.1.1.0, others.1.1.1.1.1.1.1.0) refl;
-  apart = λ f fails. (refl, fails);
   same = λ f g os cs.
       let others = cs.1.1.1.1.1.1 in
       rw (
@@ -313,14 +294,13 @@ circuit_ready = record {
         others.1.0,
         others.1.1.0,
         others.1.1.1.0,
-        others.1.1.1.1.0,
       ) refl;
   has_job = λ f os cs ns.
       let file = os.0 in let cells = cs.0 in let forks = cs.1.0 in let budget = cs.1.1.0 in let name = ns.1.1.1.1.1.1.1.0 in (
         circuit_asked f file.0 name.0 cells.0 forks.0 budget.0,
         rw (file.1, cells.1, forks.1, budget.1, name.1, name.2) refl,
         circuit_within (f.is_set (codes "needs")) (f.is_set (codes "schedule")) (f.is_set (codes "bench")) (f.is_set (codes "run"))
-            (f.is_set (codes "vcd")) (f.is_set (codes "handshake")) (f.is_set (codes "late")) file.0 name.0 cells.0 forks.0 budget.0
+            (f.is_set (codes "vcd")) (f.is_set (codes "handshake")) file.0 name.0 cells.0 forks.0 budget.0
             (cells.2, cells.3) (forks.2, forks.3) (budget.2, budget.3) name.2,
       );
 }
@@ -342,8 +322,6 @@ span_ready = record {
   defaults = refl;
   checked = λ rows there. rw there.0 refl;
   asks = λ rows clean. ((asked (is_row_given (codes "file") rows) false clean).0, tt);
-  fits_same = λ f g cs. refl;
-  apart = λ f fails. cc;
   same = λ f g os cs. rw (os.0, cs.0, cs.1.0, cs.1.1.0, cs.1.1.1.0) refl;
   has_job = λ f os cs ns. let file = os.0 in let budget = cs.0 in (
     text file.0 1 (Span budget.0 (calling_in f) (f.is_set (codes "profile")) (f.is_set (codes "schedule"))),
@@ -369,8 +347,6 @@ steps_ready = record {
   defaults = refl;
   checked = λ rows there. rw there.0 refl;
   asks = λ rows clean. ((asked (is_row_given (codes "file") rows) false clean).0, tt);
-  fits_same = λ f g cs. refl;
-  apart = λ f fails. cc;
   same = λ f g os cs. rw (os.0, cs.0, cs.1.0, cs.1.1.0) refl;
   has_job = λ f os cs ns. let file = os.0 in let budget = cs.0 in let from = cs.1.0 in let most = cs.1.1.0 in (
     text file.0 1 (Steps budget.0 (record { from = from.0; most = most.0 })),
@@ -396,8 +372,6 @@ call_ready = record {
   defaults = refl;
   checked = λ rows there. rw there.0 refl;
   asks = λ rows clean. ((asked (is_row_given (codes "file") rows) false clean).0, (tt, tt));
-  fits_same = λ f g cs. refl;
-  apart = λ f fails. cc;
   same = λ f g os cs. rw (os.0, os.1.0, cs.0, cs.1.0, cs.1.1.0, cs.1.1.1.0) refl;
   has_job = λ f os cs ns. let file = os.0 in let n = os.1.0 in let workers = cs.0 in let budget = cs.1.0 in (
     call file.0 n.0 workers.0 budget.0 (f.is_set (codes "schedule")) (f.is_set (codes "tally")),

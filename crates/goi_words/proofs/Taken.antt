@@ -23,7 +23,7 @@ use Rattle.clap.specs.declared.builder.value_parser.ValueParser.TheVariants as p
 use Rattle.clap.specs.declared.parser.matches.ValueSource.TheVariants.{DefaultValue}
 use Rattle.clap.proofs.CallerReads.{signed_reads}
 use Rattle.clap.proofs.ValueTestLemmas.{accepts-Accepts}
-use Rattle.goi_words.specs.Commands.{Choice, CommandRow, Operand, a_number, a_text, choice_rule, circuit_fits, flag, named, number_option}
+use Rattle.goi_words.specs.Commands.{Choice, CommandRow, Operand, a_number, a_text, choice_rule, flag, named, number_option}
 use Rattle.goi_words.specs.Commands.{numbered}
 use Rattle.goi_words.specs.Commands.{operand, operand_rule, some_numbers, switch, text_option}
 use Rattle.goi_words.specs.Findings.{Findings}
@@ -355,15 +355,15 @@ all_found c ready words clean =
       choices = choices_found (leaf c) c.operands c.choices words found.sound c.choices (knows c ready);
     }
 
--- a command that takes its words has a job, where the name of a module that it wants is one, and what is found goes together
+-- a command that takes its words has a job, where the name of a module that it wants is one
 pub named_has_job : (c : CommandRow) → IsReady c → (words : List Text) → level_fault (leaf c) [] nothing_held words false [] ≡ []
     → AllByRecursion (IsNamedFor (findings (rows_after (leaf c).rules [] words))) c.choices
-    → c.fits (findings (rows_after (leaf c).rules [] words)) ≡ true → HasJob (job_on c.name (rows_after (leaf c).rules [] words))
-named_has_job c ready words clean right fits =
+    → HasJob (job_on c.name (rows_after (leaf c).rules [] words))
+named_has_job c ready words clean right =
     let rows = rows_after (leaf c).rules [] words in
     let found = all_found c ready words clean in
     let has = ready.has_job (findings rows) found.operands found.choices right in
-    (has.0, ready.job rows ∙ ap (λ (b : Bool). cond b (c.job (findings rows)) None) fits ∙ has.1, has.2)
+    (has.0, ready.job rows ∙ has.1, has.2)
 
 -- the command is `circuit`, and the name that is found there is no module's
 pub record IsMisnamed (command : Text) (rows : List Row) : Type 0 where
@@ -371,11 +371,6 @@ pub record IsMisnamed (command : Text) (rows : List Row) : Type 0 where
   pub name : Text
   pub found : text_of (codes "name") rows ≡ Some name
   pub no_module : module_name name ≡ false
-
--- the command is `circuit`, and what is found there doesn't go together
-pub record IsNotFitting (command : Text) (rows : List Row) : Type 0 where
-  pub circuit : command ≡ codes "circuit"
-  pub apart : circuit_fits (findings rows) ≡ false
 
 -- the names of modules are some, or one that is found is none
 named_or_not : (command : Text) (rows : List Row) (cs : List Choice) → list_all (names_circuit command) cs ≡ true
@@ -408,27 +403,16 @@ named_or_not command rows (named name default ∷ cs) names found =
       | inr bad ↦ inr bad
     ]
 
--- what a command without a job is called with: a name that is no module's, or what doesn't go together
-abbrev pub IsMiscalled : Text → List Row → Type 0
-IsMiscalled command rows = IsMisnamed command rows ⊎ IsNotFitting command rows
-
--- a command that takes its words has a job, or is called so
+-- a command that takes its words has a job, or its name is none
 abbrev pub TakenHasJob : CommandRow → Type 0
 TakenHasJob c = (words : List Text) → level_fault (leaf c) [] nothing_held words false [] ≡ []
-    → HasJob (job_on c.name (rows_after (leaf c).rules [] words)) ⊎ IsMiscalled c.name (rows_after (leaf c).rules [] words)
+    → HasJob (job_on c.name (rows_after (leaf c).rules [] words)) ⊎ IsMisnamed c.name (rows_after (leaf c).rules [] words)
 
 -- so has each that is ready
 pub taken_has_job : (c : CommandRow) → IsReady c → TakenHasJob c
 taken_has_job c ready words clean =
     let rows = rows_after (leaf c).rules [] words in
     elim (named_or_not c.name rows c.choices ready.names (all_found c ready words clean).choices) [
-      | inl right ↦ go rows right (c.fits (findings rows)) refl (named_has_job c ready words clean right)
-      | inr bad ↦ inr (inl bad)
+      | inl right ↦ inl (named_has_job c ready words clean right)
+      | inr bad ↦ inr bad
     ]
-  where
-    go : (rows : List Row) → AllByRecursion (IsNamedFor (findings rows)) c.choices → (b : Bool) → c.fits (findings rows) ≡ b
-        → (c.fits (findings rows) ≡ true → HasJob (job_on c.name rows)) → HasJob (job_on c.name rows) ⊎ IsMiscalled c.name rows
-    go rows right true fits job = inl (job fits)
-    go rows right false fails job =
-        let apart = ready.apart (findings rows) fails in
-        inr (inr (record { circuit = apart.0; apart = apart.1 }))

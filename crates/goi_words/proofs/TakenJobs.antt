@@ -1,5 +1,4 @@
--- Words that `clap` takes ask for a job, whose numbers are in range, unless they call a circuit's module by a name that it can't have, or
--- ask of a circuit for what doesn't go together.
+-- Words that `clap` takes ask for a job, whose numbers are in range, unless they call a circuit's module by a name that it can't have.
 use Rattle.std.proofs.Common.{◌≡◌, ◌∙◌, ◌∷◌, cond, refl, subst, sym, Bool, true, false, List, [], Option}
 use Rattle.std.proofs.Common.{Some, None, ap, codes, inl, inr, is_some, map, option_map, ◌⊎◌}
 use Rattle.std.specs.List.{AllByRecursion, find}
@@ -9,9 +8,9 @@ use Rattle.clap.specs.Simple.{App, Shape, argument_words, built, entered, label_
 use Rattle.clap.specs.Words.{subcommand_of}
 use Rattle.clap.specs.Faults.{check_fault, defaults_fault, entered_fault, fault_of, level_fault, settle_fault, walk_fault}
 use Rattle.clap.specs.Kinds.{Kinds}
-use Rattle.goi_words.specs.Commands.{CommandRow, circuit_job, circuit_row, commands, goi_command}
+use Rattle.goi_words.specs.Commands.{CommandRow, circuit_job, commands, goi_command}
 use Rattle.goi_words.specs.Findings.{Findings, ◌>>=◌}
-use Rattle.goi_words.specs.Asked.{IsApart, NamesNoModule, findings, is_faultless, is_taken, job, job_on}
+use Rattle.goi_words.specs.Asked.{NamesNoModule, findings, is_faultless, is_taken, job, job_on}
 use Rattle.goi_jobs.specs.Jobs.{IsWithinLimits, JobTree}
 use Rattle.goi_words.specs.Laws.{TakenWordsHaveAJob}
 use Rattle.goi_words.proofs.Entering.{entered_job as job_by}
@@ -19,7 +18,7 @@ use Rattle.goi_words.proofs.Found.{found_in, none_else}
 use Rattle.goi_words.proofs.Agreeing.{each}
 use Rattle.goi_words.proofs.Ready.{HasJob, leaf}
 use Rattle.goi_words.proofs.Table.{all_ready, circuit_ready}
-use Rattle.goi_words.proofs.Taken.{IsMiscalled, TakenHasJob, taken_has_job}
+use Rattle.goi_words.proofs.Taken.{IsMisnamed, TakenHasJob, taken_has_job}
 use Rattle.verilog_names.specs.Name.{module_name}
 
 -- ---- the first level
@@ -31,7 +30,7 @@ whole = built goi_command
 -- a subcommand that takes its words has a job, or is called with what is refused
 abbrev HasJobs : Shape → Type 0
 HasJobs s = (words : List Text) → level_fault s [] nothing_held words false [] ≡ []
-    → HasJob (job_on s.name (rows_after s.rules [] words)) ⊎ IsMiscalled s.name (rows_after s.rules [] words)
+    → HasJob (job_on s.name (rows_after s.rules [] words)) ⊎ IsMisnamed s.name (rows_after s.rules [] words)
 
 -- so it is with each subcommand
 each_has_a_job : AllByRecursion HasJobs whole.subs
@@ -48,14 +47,14 @@ asks_for_one rows false checked = cc
 
 -- and with the one that is entered
 entered_job : (stop : Option (Text × List Text)) → entered_fault whole stop ≡ [] → is_some (entered whole stop) ≡ true
-    → (p : Text × List Row) × (entered whole stop ≡ Some p) × (HasJob (job_on p.0 p.1) ⊎ IsMiscalled p.0 p.1)
+    → (p : Text × List Row) × (entered whole stop ≡ Some p) × (HasJob (job_on p.0 p.1) ⊎ IsMisnamed p.0 p.1)
 entered_job None clean met = cc
 entered_job (Some stop) clean met = go (find (λ s. answers_to stop.0 (label_of s)) whole.subs) refl clean met
   where
     go : (o : Option Shape) → find (λ s. answers_to stop.0 (label_of s)) whole.subs ≡ o
         → option_map_or (λ s. level_fault s [] nothing_held stop.1 false []) o [] ≡ []
         → is_some (option_map (λ s. rows_at s stop.1) o) ≡ true
-        → (p : Text × List Row) × (option_map (λ s. rows_at s stop.1) o ≡ Some p) × (HasJob (job_on p.0 p.1) ⊎ IsMiscalled p.0 p.1)
+        → (p : Text × List Row) × (option_map (λ s. rows_at s stop.1) o ≡ Some p) × (HasJob (job_on p.0 p.1) ⊎ IsMisnamed p.0 p.1)
     go None is clean met = cc
     go (Some s) is clean met =
         (rows_at s stop.1, refl, found_in HasJobs (λ t. answers_to stop.0 (label_of t)) whole.subs s each_has_a_job is stop.1 clean)
@@ -75,18 +74,7 @@ no_circuit f name found no_module =
 misnamed_refused : (words : List Text) → fault_of goi_command words ≡ [] → NamesNoModule words → job words ≡ None
 misnamed_refused words clean bad =
     job_by words (Some (codes "circuit", bad.rows)) clean (sym bad.entered) ∙ circuit_ready.job bad.rows
-    ∙ either_way (circuit_row.fits (findings bad.rows)) (circuit_job (findings bad.rows))
-    (no_circuit (findings bad.rows) bad.name bad.found bad.no_module)
-  where
-    either_way : (b : Bool) (o : Option JobTree) → o ≡ None → cond b o None ≡ None
-    either_way true o none = none
-    either_way false o none = refl
-
--- as those are that don't go together
-apart_refused : (words : List Text) → fault_of goi_command words ≡ [] → IsApart words → job words ≡ None
-apart_refused words clean bad =
-    job_by words (Some (codes "circuit", bad.rows)) clean (sym bad.entered) ∙ circuit_ready.job bad.rows
-    ∙ ap (λ (b : Bool). cond b (circuit_job (findings bad.rows)) None) bad.apart
+    ∙ no_circuit (findings bad.rows) bad.name bad.found bad.no_module
 
 -- a list of kinds without one is empty
 faultless : (k : Kinds) → is_faultless k ≡ true → k ≡ []
@@ -107,7 +95,7 @@ taken_words_have_a_job words taken =
     let found = entered_job end.stopped below.0 met in
     elim found.2 [
       | inl has ↦ inl (has.0, job_by words (Some found.0) clean (sym found.1) ∙ has.1, has.2)
-      | inr (inl bad) ↦
+      | inr bad ↦
           let named : NamesNoModule words = record {
             rows = found.0.1;
             entered = found.1 ∙ ap (λ n. Some (n, found.0.1)) bad.circuit;
@@ -115,26 +103,19 @@ taken_words_have_a_job words taken =
             found = bad.found;
             no_module = bad.no_module;
           } in
-          inr (inl named, misnamed_refused words clean named)
-      | inr (inr bad) ↦
-          let apart : IsApart words = record {
-            rows = found.0.1;
-            entered = found.1 ∙ ap (λ n. Some (n, found.0.1)) bad.circuit;
-            apart = bad.apart;
-          } in
-          inr (inr apart, apart_refused words clean apart)
+          inr (named, misnamed_refused words clean named)
     ]
 
 -- ---- what follows
 
--- words are refused by `clap`, for a name that is no module's, or for what doesn't go together
-pub why_refused : (words : List Text) → job words ≡ None → (is_taken words ≡ false) ⊎ (NamesNoModule words ⊎ IsApart words)
+-- words are refused by `clap`, or for a name that is no module's
+pub why_refused : (words : List Text) → job words ≡ None → (is_taken words ≡ false) ⊎ NamesNoModule words
 why_refused words is = go (is_taken words) refl
   where
     some : (done : JobTree) → job words ≡ Some done → ⊥
     some done has = let both : None ≡ Some done = sym is ∙ has in cc
 
-    go : (b : Bool) → is_taken words ≡ b → (is_taken words ≡ false) ⊎ (NamesNoModule words ⊎ IsApart words)
+    go : (b : Bool) → is_taken words ≡ b → (is_taken words ≡ false) ⊎ NamesNoModule words
     go false taken = inl taken
     go true taken = elim (taken_words_have_a_job words taken) [
       | inl has ↦ absurd (some has.0 has.1)

@@ -9,7 +9,7 @@ use Rattle.std.specs.Str.Parse.{digits_value, without_leading_plus}
 use Rattle.clap.specs.ValueTests.{is_numeral}
 use Rattle.clap.specs.Words.{Kinds, Row, Text, all_of, fault_of, first_of, one_of, subcommand_of}
 use Rattle.goi_words.specs.Findings.{Findings, ◌>>=◌}
-use Rattle.goi_words.specs.Commands.{CommandRow, circuit_fits, commands, goi_command}
+use Rattle.goi_words.specs.Commands.{CommandRow, commands, goi_command}
 use Rattle.goi_jobs.specs.Jobs.{JobTree}
 use Rattle.verilog_names.specs.Name.{module_name}
 
@@ -58,14 +58,10 @@ findings rows = record {
   is_set = λ name. is_set name rows;
 }
 
--- the job of a command, from what was found for its arguments, where that goes together
-abbrev pub fitting_job : CommandRow → List Row → Option JobTree
-fitting_job c rows = if c.fits (findings rows) then c.job (findings rows) else None
-
 -- the job of the command of this name
 abbrev pub job_among : List CommandRow → Text → List Row → Option JobTree
 job_among [] name rows = None
-job_among (c ∷ cs) name rows = if bytes_eq name c.name then fitting_job c rows else job_among cs name rows
+job_among (c ∷ cs) name rows = if bytes_eq name c.name then c.job (findings rows) else job_among cs name rows
 
 abbrev pub job_on : Text → List Row → Option JobTree
 job_on = job_among commands
@@ -86,12 +82,6 @@ pub record NamesNoModule (words : List Text) : Type 0 where
   pub name : Text
   pub found : text_of (codes "name") rows ≡ Some name
   pub no_module : module_name name ≡ false
-
--- the words enter `circuit`, and what is found there doesn't go together
-pub record IsApart (words : List Text) : Type 0 where
-  pub rows : List Row
-  pub entered : subcommand_of goi_command words ≡ Some (codes "circuit", rows)
-  pub apart : circuit_fits (findings rows) ≡ false
 
 -- the job of a list of words, or none where the words are refused
 unfoldable pub job : List Text → Option JobTree

@@ -1,9 +1,9 @@
 -- The table of commands, and the command line that it makes, as the argument of `clap`'s definition.
--- A command has its name, its operands, its options, which of these go together, and the job that its arguments make. There is one level
+-- A command has its name, its operands, its options, and the job that its arguments make. There is one level
 -- of subcommands, and no option has a rule of `clap`'s on another, so that `clap`'s definition says exactly which words are taken and what
 -- was found. Help is switched off: the words for it are unknown words and are refused as such. What is added later stands at the end of
 -- its list.
-use Rattle.std.specs.Prelude.{ℕ, Bool, true, false, not, ◌||◌, pos, List, [], ◌∷◌, ◌++◌, Option, None, Some, if◌then◌else◌, codes, map}
+use Rattle.std.specs.Prelude.{ℕ, Bool, true, false, pos, List, [], ◌∷◌, ◌++◌, Option, None, Some, if◌then◌else◌, codes, map}
 use Rattle.clap.specs.Words.{App, Rule, Shape, Text, new_rule}
 use Rattle.clap.specs.Lexer.{usize_max}
 use Rattle.clap.specs.Simple.{new_shape}
@@ -42,13 +42,11 @@ pub data Choice : Type 0 where
   -- `--name M`, with the name of a module: the name that stands for it where it isn't given
   named : Text → Text → Choice
 
--- a command: its name, its operands in their order, its options, whether those that are found go together, and the job that its arguments
--- make where they do
+-- a command: its name, its operands in their order, its options, and the job that its arguments make
 pub record CommandRow : Type 0 where
   pub name : Text
   pub operands : List Operand
   pub choices : List Choice
-  pub fits : Findings → Bool
   pub job : Findings → Option JobTree
 
 -- the name of an argument
@@ -187,24 +185,14 @@ abbrev pub name_in : Findings → Option Text
 name_in found = found.text (codes "name") >>= if_module_name
 
 -- what a circuit needs where that is asked for, and else who moves in its run where that is, and else a bench for it where that is, and
--- else its run where that is, and else the circuit; the bench and the circuit have late numbers where these are asked for
+-- else its run where that is, and else the circuit
 abbrev pub circuit_asked : Findings → (file name : Text) → (cells forks budget : ℕ) → JobTree
 circuit_asked found file name cells forks budget =
     if found.is_set (codes "needs") then text file 1 (NeedsCircuit budget)
     else (if found.is_set (codes "schedule") then text file 1 (ScheduleCircuit budget)
-    else (if found.is_set (codes "bench") then verilog file name (Bench budget (found.is_set (codes "late")))
+    else (if found.is_set (codes "bench") then verilog file name (Bench budget)
     else (if found.is_set (codes "run") then text file 1 (RunCircuit cells forks budget (found.is_set (codes "vcd")))
-    else verilog file name (Circuit cells forks (found.is_set (codes "handshake")) (found.is_set (codes "late"))))))
-
--- whatever is found goes together
-abbrev pub any_fit : Findings → Bool
-any_fit found = true
-
--- the run of a circuit, with its registers, its needs and who moves in it are of the circuit whose numbers are there at once: with late
--- numbers none of them is asked for
-abbrev pub circuit_fits : Findings → Bool
-circuit_fits found = not (found.is_set (codes "late"))
-    || not (found.is_set (codes "run") || (found.is_set (codes "vcd") || (found.is_set (codes "needs") || found.is_set (codes "schedule"))))
+    else verilog file name (Circuit cells forks (found.is_set (codes "handshake"))))))
 
 -- ---- the jobs
 -- `replay` reads the part of a trace always, and asks for it with `--trace` alone: `clap`'s definition has no word for an option that
@@ -299,7 +287,6 @@ run_row = record {
   name = codes "run";
   operands = file_operand ∷ [];
   choices = workers_choice ∷ budget_choice ∷ schedule_choice ∷ tally_choice ∷ by_value_choice ∷ switch (codes "progress") ∷ [];
-  fits = any_fit;
   job = run_job;
 }
 
@@ -308,19 +295,17 @@ check_row = record {
   name = codes "check";
   operands = file_operand ∷ [];
   choices = switch (codes "term") ∷ [];
-  fits = any_fit;
   job = check_job;
 }
 
 abbrev pub net_row : CommandRow
-net_row = record { name = codes "net"; operands = file_operand ∷ []; choices = []; fits = any_fit; job = net_job }
+net_row = record { name = codes "net"; operands = file_operand ∷ []; choices = []; job = net_job }
 
 abbrev pub replay_row : CommandRow
 replay_row = record {
   name = codes "replay";
   operands = file_operand ∷ a_text (codes "schedule") ∷ [];
   choices = switch (codes "trace") ∷ from_choice ∷ most_choice ∷ [];
-  fits = any_fit;
   job = replay_job;
 }
 
@@ -329,7 +314,6 @@ demo_row = record {
   name = codes "demo";
   operands = a_number (codes "n") 0 most_demo ∷ [];
   choices = workers_choice ∷ [];
-  fits = any_fit;
   job = demo_job;
 }
 
@@ -338,7 +322,6 @@ run_net_row = record {
   name = codes "run-net";
   operands = file_operand ∷ [];
   choices = workers_choice ∷ budget_choice ∷ schedule_choice ∷ tally_choice ∷ [];
-  fits = any_fit;
   job = run_net_job;
 }
 
@@ -347,7 +330,6 @@ batch_row = record {
   name = codes "batch";
   operands = file_operand ∷ [];
   choices = workers_choice ∷ [];
-  fits = any_fit;
   job = batch_job;
 }
 
@@ -356,7 +338,6 @@ trace_row = record {
   name = codes "trace";
   operands = file_operand ∷ [];
   choices = workers_choice ∷ budget_choice ∷ by_value_choice ∷ from_choice ∷ most_choice ∷ [];
-  fits = any_fit;
   job = trace_job;
 }
 
@@ -365,9 +346,7 @@ circuit_row = record {
   name = codes "circuit";
   operands = file_operand ∷ [];
   choices = cells_choice ∷ forks_choice ∷ budget_choice ∷ switch (codes "run") ∷ switch (codes "vcd")
-      ∷ switch (codes "needs") ∷ schedule_choice ∷ name_choice ∷ switch (codes "handshake") ∷ switch (codes "bench")
-      ∷ switch (codes "late") ∷ [];
-  fits = circuit_fits;
+      ∷ switch (codes "needs") ∷ schedule_choice ∷ name_choice ∷ switch (codes "handshake") ∷ switch (codes "bench") ∷ [];
   job = circuit_job;
 }
 
@@ -376,7 +355,6 @@ span_row = record {
   name = codes "span";
   operands = file_operand ∷ [];
   choices = budget_choice ∷ by_value_choice ∷ switch (codes "profile") ∷ schedule_choice ∷ [];
-  fits = any_fit;
   job = span_job;
 }
 
@@ -385,7 +363,6 @@ steps_row = record {
   name = codes "steps";
   operands = file_operand ∷ [];
   choices = budget_choice ∷ from_choice ∷ told_choice ∷ [];
-  fits = any_fit;
   job = steps_job;
 }
 
@@ -394,7 +371,6 @@ call_row = record {
   name = codes "call";
   operands = file_operand ∷ some_numbers (codes "n") ∷ [];
   choices = workers_choice ∷ budget_choice ∷ schedule_choice ∷ tally_choice ∷ [];
-  fits = any_fit;
   job = call_job;
 }
 

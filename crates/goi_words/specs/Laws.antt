@@ -2,7 +2,7 @@
 use Rattle.std.specs.Prelude.{◌≡◌, ◌⊎◌, true, List, [], ◌∷◌, None, Some, codes}
 use Rattle.std.specs.List.{AllByRecursion}
 use Rattle.clap.specs.Words.{Text}
-use Rattle.goi_words.specs.Asked.{IsApart, NamesNoModule, is_taken, job}
+use Rattle.goi_words.specs.Asked.{NamesNoModule, is_taken, job}
 use Rattle.goi_words.specs.Commands.{CommandRow, commands}
 use Rattle.goi_jobs.specs.Jobs.{IsWithinLimits, JobTree}
 use Rattle.goi_words.specs.Plain.{IsPlain, Setting, Value, given, plain_words}
@@ -17,11 +17,10 @@ TakesPlainWords c = (program : Text) (values : List Value) (settings : List Sett
 abbrev pub PlainWordsAreTaken : Type 0
 PlainWordsAreTaken = AllByRecursion TakesPlainWords commands
 
--- words that `clap` takes ask for a job within the limits, or enter `circuit` with a name that is no module's, or with what doesn't go
--- together, and are refused for it
+-- words that `clap` takes ask for a job within the limits, or enter `circuit` with a name that is no module's, and are refused for it
 abbrev pub TakenWordsHaveAJob : Type 0
 TakenWordsHaveAJob = (words : List Text) → is_taken words ≡ true
-    → ((done : JobTree) × (job words ≡ Some done) × IsWithinLimits done) ⊎ ((NamesNoModule words ⊎ IsApart words) × (job words ≡ None))
+    → ((done : JobTree) × (job words ≡ Some done) × IsWithinLimits done) ⊎ (NamesNoModule words × (job words ≡ None))
 
 -- no words at all are refused, as the program's name alone is
 abbrev pub NoWordsAreRefused : Type 0

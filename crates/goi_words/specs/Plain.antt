@@ -1,7 +1,7 @@
 -- Plain words, and what they ask for, for each command of the table.
 -- Plain words are the program's name, the command, its operands in order, and then options in any order, each at most once, with
 -- its value as the next word. Numbers are decimal digits without leading zeros and in range; names of files are neither empty nor
--- begin with `-`, a module's name is one, and the options go together. `clap` takes other words too; what they mean is its own to say, and
+-- begin with `-`, and a module's name is one. `clap` takes other words too; what they mean is its own to say, and
 -- isn't told here.
 use Rattle.std.specs.Prelude.{◌≡◌, ◌==◌, ◌<◌, ◌≤◌, ◌^◌, ⊤, ℕ, Bool, false, true, List, [], ◌∷◌, ◌++◌, Option, None, Some, codes, length}
 use Rattle.std.specs.Prelude.{find, if◌then◌else◌, map}
@@ -156,4 +156,3 @@ pub record IsPlain (c : CommandRow) (values : List Value) (settings : List Setti
   pub operands : AllFit c.operands values
   pub options : AllByRecursion (IsOption c.choices) settings
   pub distinct : AreDistinct settings
-  pub together : c.fits (given c values settings) ≡ true

@@ -3,7 +3,7 @@
 ghost use Rattle.goi_words.specs.Laws.{HelpIsRefused, NoWordsAreRefused, PlainWordsAreTaken, TakenWordsHaveAJob};
 
 /// Plain words are never refused, and ask for what the table says: a command, its operands in order, and then its options in any
-/// order, each at most once, which go together.
+/// order, each at most once.
 pub fn law_plain_words()
     ensures { PlainWordsAreTaken }
 {}
@@ -19,7 +19,7 @@ pub fn law_help()
 {}
 
 /// Words that `clap`'s definition takes ask for a job, and its numbers are in range; or they enter `circuit` with a name that is no
-/// module's, or with options that don't go together, and are refused.
+/// module's, and are refused.
 pub fn law_taken_words()
     ensures { TakenWordsHaveAJob }
 {}

@@ -4,10 +4,10 @@ ghost use Rattle.std.specs.Prelude.{◌≡◌, ◌≢◌, ◌⊎◌, IfOk, IfErr
 ghost use Rattle.std.specs.Prelude.{string_bytes};
 ghost use Rattle.std.specs.Str.{bytes_eq};
 ghost use Rattle.clap.specs.Words.{Text, fault_of, found_of, rows_of, subcommand_of, subcommand_rows_of};
-ghost use Rattle.goi_words.specs.Commands.{batch_job, call_job, calling_in, check_job, circuit_asked, circuit_fits, circuit_job};
-ghost use Rattle.goi_words.specs.Commands.{circuit_row, demo_job, goi_command, if_traced, name_in, net_job, replay_job, run_job};
+ghost use Rattle.goi_words.specs.Commands.{batch_job, call_job, calling_in, check_job, circuit_asked, circuit_job};
+ghost use Rattle.goi_words.specs.Commands.{demo_job, goi_command, if_traced, name_in, net_job, replay_job, run_job};
 ghost use Rattle.goi_words.specs.Commands.{run_net_job, span_job, steps_job, trace_job, window_of};
-ghost use Rattle.goi_words.specs.Asked.{IsApart, NamesNoModule, findings, fitting_job, is_set, is_taken, job, job_on, number_of};
+ghost use Rattle.goi_words.specs.Asked.{NamesNoModule, findings, is_set, is_taken, job, job_on, number_of};
 ghost use Rattle.goi_words.specs.Asked.{numbers_of, text_of, wide_number_in, wide_numbers_in};
 ghost use Rattle.goi_words.specs.Growing.{lent_tree};
 ghost use Rattle.goi_jobs.specs.Jobs.{IsWithinLimits, job_of};
@@ -27,15 +27,14 @@ use verilog_names::is_module_name;
 ///
 /// # Errors
 ///
-/// `Refused` comes only when `clap`'s definition refuses the words, the name of a circuit's module is none, or what is asked for of a
-/// circuit doesn't go together, and `NoMemory` when memory runs out.
+/// `Refused` comes only when `clap`'s definition refuses the words, or the name of a circuit's module is none, and `NoMemory` when memory
+/// runs out.
 pub fn job_of(alloc: Global, words: &[String]) -> Result<Job, WordFault>
     ensures ok { IfOk result (λ done. job (map string_bytes words.now) ≡ Some (job_of done)) }
     ensures within { IfOk result (λ done. IsWithinLimits (job_of done)) }
     ensures none { IsErrOf result Refused → job (map string_bytes words.now) ≡ None }
     ensures refused { IsErrOf result Refused
-        → (is_taken (map string_bytes words.now) ≡ false)
-        ⊎ (NamesNoModule (map string_bytes words.now) ⊎ IsApart (map string_bytes words.now)) }
+        → (is_taken (map string_bytes words.now) ≡ false) ⊎ NamesNoModule (map string_bytes words.now) }
 {
     let matches = parse(alloc, words)?;
     match matches.subcommand() {
@@ -126,7 +125,7 @@ fn lent_on<'a>(name: &str, found: &ArgMatches<'a>) -> Option<Lent<'a>>
         "run-net" => run_net_job(found),
         "batch" => batch_job(found),
         "trace" => trace_job(found),
-        "circuit" => fitting_job(found),
+        "circuit" => circuit_job(found),
         "span" => span_job(found),
         "steps" => steps_job(found),
         _ => None,
@@ -231,28 +230,6 @@ fn trace_job<'a>(found: &ArgMatches<'a>) -> Option<Lent<'a>>
     Some(Lent::Text(file, workers, task))
 }
 
-/// The job of the words behind `circuit`, where they go together.
-fn fitting_job<'a>(found: &ArgMatches<'a>) -> Option<Lent<'a>>
-    ensures { option_map lent_tree result ≡ fitting_job circuit_row (rows_of (found_of found.now)) }
-{
-    if circuit_fits(found) {
-        circuit_job(found)
-    } else {
-        None
-    }
-}
-
-/// Whether they do: late numbers aren't asked for with what is of the circuit whose numbers are there at once.
-fn circuit_fits(found: &ArgMatches<'_>) -> bool
-    ensures { result ≡ circuit_fits (findings (rows_of (found_of found.now))) }
-{
-    !is_set(found, "late")
-        || !(is_set(found, "run")
-            || is_set(found, "vcd")
-            || is_set(found, "needs")
-            || is_set(found, "schedule"))
-}
-
 /// The job of the words behind `circuit`; a name that is no module's is refused.
 fn circuit_job<'a>(found: &ArgMatches<'a>) -> Option<Lent<'a>>
     ensures { option_map lent_tree result ≡ circuit_job (findings (rows_of (found_of found.now))) }
@@ -266,7 +243,7 @@ fn circuit_job<'a>(found: &ArgMatches<'a>) -> Option<Lent<'a>>
 }
 
 /// What a circuit needs within so many moves where that was found, and else who moves in it where that was, and else a bench for it where
-/// that was, and else the run of a circuit of these sizes for so many cycles where that was, and else the circuit; late where that was.
+/// that was, and else the run of a circuit of these sizes for so many cycles where that was, and else the circuit.
 fn circuit_asked<'a>(
     found: &ArgMatches<'_>,
     file: &'a str,
@@ -282,8 +259,7 @@ fn circuit_asked<'a>(
     } else if is_set(found, "schedule") {
         Lent::Text(file, 1, Task::ScheduleCircuit { budget })
     } else if is_set(found, "bench") {
-        let late = is_set(found, "late");
-        Lent::Verilog(file, name, Verilog::Bench { budget, late })
+        Lent::Verilog(file, name, Verilog::Bench { budget })
     } else if is_set(found, "run") {
         let task = Task::RunCircuit {
             cells,
@@ -297,7 +273,6 @@ fn circuit_asked<'a>(
             cells,
             forks,
             handshake: is_set(found, "handshake"),
-            late: is_set(found, "late"),
         };
         Lent::Verilog(file, name, verilog)
     }

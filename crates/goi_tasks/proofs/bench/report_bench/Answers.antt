@@ -8,7 +8,7 @@ use Rattle.goi_tasks.proofs.bench.report_bench.Goals as goal
 pub returns-clause-report : goal.returns-clause-report
 returns-clause-report c =
     of_net ByName c.args.bytes.now c.in_ok-net.net
-    (λ t. ReportsBench c.args.name.now c.args.budget c.args.late t (output_of c.in_ok-report.field-0))
+    (λ t. ReportsBench c.args.name.now c.args.budget t (output_of c.in_ok-report.field-0))
     c.in_ok-net.ensures.net (λ t is. c.in_ok-report.ensures t is)
 
 pub returns-in_err-net-clause-fault : goal.returns-in_err-net-clause-fault

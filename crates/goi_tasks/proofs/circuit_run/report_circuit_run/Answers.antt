@@ -6,9 +6,8 @@ use Rattle.goi_tasks.proofs.circuit_run.report_circuit_run.Goals as goal
 
 pub returns-clause-report : goal.returns-clause-report
 returns-clause-report c = λ workers.
-    reports_circuit c.law_program_runs.ensures c.law_bounded.ensures c.law_keeps_size.ensures c.law_net_size.ensures c.law_lists.ensures
-    c.args.bytes.now c.in_ok-net.net c.args.run.cells c.args.run.forks c.args.run.budget c.args.run.waves c.requires.cells
-    c.requires.forks c.in_ok-net.ensures.net (output_of c.in_ok-report.field-0) c.in_ok-report.ensures
+    reports_circuit c.law_program_runs.ensures c.args.bytes.now c.in_ok-net.net c.args.run.cells c.args.run.forks c.args.run.budget
+    c.args.run.waves c.in_ok-net.ensures.net (output_of c.in_ok-report.field-0) c.in_ok-report.ensures
 
 pub returns-in_err-net-clause-fault : goal.returns-in_err-net-clause-fault
 returns-in_err-net-clause-fault c =

@@ -5,6 +5,5 @@ pub returns : goal.returns
 returns c =
     let needs = c.in_ok-needs.needs in
     let is = c.in_ok-needs.ensures in
-    reports_needs c.args.net.now c.args.budget needs.answer needs.moves needs.cells needs.forks
-    (record { many = is.moves; led = is.answer; counts_cells = is.cells; counts_forks = is.forks })
+    reports_needs c.args.net.now c.args.budget needs.answer needs.moves is.moves is.answer c.in_ok-counts.counts c.in_ok-counts.ensures
     c.status_of.result c.status_of.ensures c.in_ok-text.text.items c.in_ok-text.ensures _ c.plain.ensures

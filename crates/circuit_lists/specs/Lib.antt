@@ -1,2 +1,0 @@
--- The statement of `law_lists`.
-pub mod Laws

@@ -1,2 +1,0 @@
--- where the first power of 2 stands that is at least a number
-pub mod Powers

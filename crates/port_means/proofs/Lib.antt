@@ -1,4 +1,0 @@
--- a function's net begins at no port's constant
-mod Begins
--- what its module tells
-mod Functions

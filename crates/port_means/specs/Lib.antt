@@ -1,2 +1,0 @@
--- The statements of `law_function` and `law_late_function`.
-pub mod Laws
