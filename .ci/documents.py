@@ -168,7 +168,6 @@ REFUSED = (
     ("run p --budget -5", "`--budget` wants a value behind it, and `-5` is none"),
     ("run p --workers 65", "`65` is no value of `--workers`, which takes 1 to 64"),
     ("circuit p --cells 0", "`0` is no value of `--cells`, which takes 1 to 1048575"),
-    ("circuit p --late --name a --run", "`--late` is not taken with `--run`"),
     ("circuit p --name 1st", "`1st` is no name of a module: a letter or `_`, and then letters, digits, `_` and `$`, at most 255 in all"),
     ("circuit p --name module", "`module` is a reserved word, and names no module"),
     ("trace p --from x", "`x` is no value of `--from`, which takes 0 to 10000000"),
@@ -190,19 +189,15 @@ def try_table(program):
         judge(f"a page with {new} for {old}", old in page and len(options.odd(page.replace(old, new, 1), source)), 1)
     for old, new in (
         ('"workers",\n    1,', '"workers",\n    2,'), ('Argument::Switch("term")', 'Argument::Switch("terms")'), ("Numbers(", "Text("),
-        ('    Argument::Switch("late"),\n', ""), ('"span", &SPAN', '"spans", &SPAN'), ("FROM,\n    MOST", "FROM,\n    TALLY,\n    MOST"),
+        ('    Argument::Switch("bench"),\n', ""), ('"span", &SPAN', '"spans", &SPAN'), ("FROM,\n    MOST", "FROM,\n    TALLY,\n    MOST"),
     ):
         judge(f"a program with {new} for {old}", old in source and len(options.odd(page, source.replace(old, new))) > 0)
-    # and what is built takes all options of a command at once, with their values, but for those that are apart
+    # and what is built takes all options of a command at once, with their values
     for name, row in options.COMMANDS.items():
         words = ["0" if it == "N" else "/lacked" for it in row["operands"]]
-        apart = {other for it in row["options"].values() for other in it.get("apart", ())}
         for option, it in row["options"].items():
-            words += [option, *([str(it.get("most", it["default"]))] if "value" in it else [])] * (it["name"] not in apart)
+            words += [option, *([str(it.get("most", it["default"]))] if "value" in it else [])]
         judge(f"{name} with all its options", call([program, name, *words])[0], 0 if name == "demo" else 3)
-        for option, it in row["options"].items():
-            for other in it.get("apart", ()):
-                judge(f"{name} {option} --{other}", call([program, name, *words, f"--{other}"]), (2, b"", b"refused words\n"))
 
 
 def try_help(program):

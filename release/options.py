@@ -37,10 +37,9 @@ def values(row):
 
 
 def sentence(row):
-    """What a command or an option does, with the range of a command's numbers, and with the options that it isn't taken with."""
+    """What a command or an option does, with the range of a command's numbers."""
     numbers = f". N is {row['least']} to {row['most']}" if "takes" in row and "least" in row else ""
-    apart = ", ".join(f"`--{it}`" for it in row.get("apart", ()))
-    return row["does"] + numbers + (f". It is refused with {apart}" if apart else "")
+    return row["does"] + numbers
 
 
 # ---- docs/FORMATS.md

@@ -7,19 +7,18 @@ from judging import EXAMPLES
 from tables.cases import DOUBLE, call, case, plain, row_of, sections
 
 
-def left_out(text, below):
-    """The lines of a text that are left out where a table shows the others by what they begin with; None where it has others. In the table
-    `..` stands for any lines."""
-    lines, rest, at = text.split("\n"), [], 0
+def has(text, below):
+    """Whether a text begins with the lines of a table's first block, and has those of each other one in this order. In the table `..` stands
+    for any lines, and a line for one that begins so."""
+    lines, at = text.split("\n"), 0
     blocks = [it.strip("\n").split("\n") for it in ("\n" + below).split("\n..\n")]
     for number, block in enumerate(it for it in blocks if it != [""]):
         fits = lambda it: all(line.startswith(shown) for line, shown in zip(lines[it:], block)) and it + len(block) <= len(lines)
         found = next((it for it in range(at, at + 1 if number == 0 else len(lines)) if fits(it)), None)
         if found is None:
-            return None
-        rest += lines[at:found]
+            return False
         at = found + len(block)
-    return rest + lines[at:]
+    return True
 
 
 # A function of so many numbers, in two parts, since no type is as deep.
@@ -29,7 +28,7 @@ LONGEST = f"(fun h:{'nat->' * (MANY // 2)}nat. {'fun x:nat. ' * (MANY // 2)}h) (
 # What a circuit's words are, and which modules its text has: their own lines, and those that put one of them into another.
 NAMED = (
     (DOUBLE, [], ["module goi ("]),
-    (DOUBLE, ["--name", "adder", "--late"], ["module adder ("]),
+    (DOUBLE, ["--name", "adder"], ["module adder ("]),
     (DOUBLE, ["--name", "adder", "--bench"], ["module adder_bench;", "  adder circuit ("]),
     (b"fun x:nat. x", ["--name", "adder"], ["module adder ("]),
     (b"fun x:nat. x", ["--handshake"], ["module goi (", "module goi_call (", "  goi circuit ("]),
@@ -37,16 +36,10 @@ NAMED = (
 )
 
 
-def ported(fixed):
-    """What is left out of a function's text. The end of the list of ports is shown, and above the registers of arguments there is a gap."""
-    at = fixed.index("  // ---- where the token goes")
-    return [it for it in [*fixed[:at], "", *fixed[at:]] if it not in ("  output reg [63:0] moves", ");")]
-
-
 def ports():
-    """The ports of the longest function's circuit, and how many rows read their registers."""
+    """The ports of the longest function's circuit, and how many of them are held."""
     out = call(["goi", "circuit", "p"], {"p": LONGEST.encode()})[1].decode()
-    return re.findall(r"^  input wire \[63:0\] (\w+),?$", out, re.M), len(set(re.findall(r" number = (held\d+);", out)))
+    return re.findall(r"^  input wire \[63:0\] (\w+),?$", out, re.M), len(set(re.findall(r" (held\d+) <= arg\d+;", out)))
 
 
 def named(text, words):
@@ -55,19 +48,19 @@ def named(text, words):
 
 
 def cases():
-    """What the table leaves out of a text is what it leaves out of examples/succ.v, whose row is the first: the fixed parts."""
+    """Each circuit of the table has its lines, and examples/succ.v is the first one's text."""
     table = sections("circuits")
     with open(os.path.join(EXAMPLES, "succ.v"), encoding="utf-8") as it:
-        fixed = left_out(it.read(), table[0][1])
-    case("the table shows parts of examples/succ.v", lambda: fixed is not None and len(fixed) > 200, True)
+        succ = it.read()
+    case("examples/succ.v", lambda: call(["goi", "circuit", "p", "--cells", "1", "--forks", "1"], {"p": b"succ 4"}), (0, succ.encode(), b""))
     for (text, cells, forks), below in table:
         words = ["goi", "circuit", "p", "--cells", cells, "--forks", forks]
 
         def shown(words=words, text=plain(text), below=below):
             status, out, err = call(words, {"p": text})
-            return status, err, left_out(out.decode(), below)
+            return status, err, has(out.decode(), below)
 
-        case(f"the circuit of {text}", shown, (0, b"", ported(fixed) if "arg0" in below else fixed))
+        case(f"the circuit of {text}", shown, (0, b"", True))
     case(f"the circuit of a function of {MANY} numbers", ports, ([f"arg{it}" for it in range(MANY)], MANY))
     for text, words, wanted in NAMED:
         case(f"the modules of {text} with {words}", lambda text=text, words=words: named(text, words), wanted)

@@ -37,7 +37,7 @@ def cases():
         (["--cells=1048575", "p", "--forks=1"], ("1048575", "1")),
     ]:
         parameters = lambda words=words: re.search(
-            r"localparam CELLS = (\d+);\n +localparam E = (\d+);", call(["goi", "circuit", *words], WORDS_FILES)[1].decode()
+            r"\] cells \[0:(\d+)-1\];\n(?:.*\n)*  reg \[.*\] forks \[0:(\d+)-1\];", call(["goi", "circuit", *words], WORDS_FILES)[1].decode()
         ).groups()
         case(f"the sizes of a circuit {words}", parameters, sizes)
     # how many moves of a long run are shown where the words don't say it, and how many workers a run of a net has
