@@ -7,8 +7,8 @@ use Rattle.verilog_tree.specs.Tree.{Stmt, Item, num}
 use Rattle.verilog_tree.specs.Meaning.{Scope, Store, chosen, nonzero, fire}
 use Rattle.verilog_tree.proofs.Leaves.{spares}
 use Rattle.circuit_module.specs.Fixed.{set, block}
-use Rattle.tree_edges.specs.Items.{item_name}
-use Rattle.tree_edges.proofs.Declared.{is_name}
+use Rattle.verilog_tree.specs.Items.{item_name}
+use Rattle.verilog_tree.proofs.Once.{is_name}
 use Rattle.joined_module.specs.Names.{sig_name, box_name, next_sig_name, next_box_name}
 use Rattle.joined_module.specs.Fields.{Field}
 use Rattle.joined_module.specs.Unit.{unit_registers, unit_stmt}

@@ -4,8 +4,8 @@ use Prim.Native.String.{String}
 use Rattle.verilog_tree.specs.Tree.{Width, reg, one_of, logic, none, part, word, count, name}
 use Rattle.verilog_tree.specs.Meaning.{Scope, Store, chosen, nonzero, fit, holds, set_vec, fire}
 use Rattle.circuit_module.specs.Fixed.{set, block}
-use Rattle.tree_edges.specs.Items.{Has, here, further}
-use Rattle.tree_edges.proofs.Blocks.{set_here}
+use Rattle.verilog_tree.specs.Items.{Has, here, further}
+use Rattle.verilog_tree.proofs.Settled.{set_here}
 use Rattle.verilog_tree.proofs.Leaves.{fire_spares}
 use Rattle.joined_module.specs.Names.{held_name, sig_name, box_name, next_sig_name, next_box_name, found}
 use Rattle.joined_module.specs.Fields.{Field, vector_wide}

@@ -8,8 +8,8 @@ use Rattle.verilog_tree.specs.Meaning.{Scope, Store}
 use Rattle.verilog_tree.specs.WellFormed.{member}
 use Rattle.circuit_module.specs.Fixed.{set, block}
 use Rattle.verilog_tree.proofs.Leaves.{spares}
-use Rattle.tree_edges.specs.Items.{Has, item_name}
-use Rattle.tree_edges.proofs.Lists.{in_front, behind}
+use Rattle.verilog_tree.specs.Items.{Has, item_name}
+use Rattle.verilog_tree.proofs.Lists.{in_front, behind}
 use Rattle.joined_module.specs.Names.{held_name, sig_name, box_name, next_sig_name, next_box_name, new_word_name}
 use Rattle.joined_module.specs.Fields.{Field}
 use Rattle.joined_module.specs.Ports.{arg_inputs, held_regs, held_sets}

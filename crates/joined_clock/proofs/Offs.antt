@@ -7,9 +7,9 @@ use Rattle.verilog_tree.specs.Tree.{Target, whole, word_at, Stmt, skip, put, seq
 use Rattle.verilog_tree.specs.WellFormed.{Entry, member, item_ok, items_ok, declared, driven}
 use Rattle.verilog_tree.proofs.Own.{one_name, same_name}
 use Rattle.verilog_tree.proofs.Leaves.{spares}
-use Rattle.tree_edges.specs.Items.{Has, here, further, item_name}
-use Rattle.tree_edges.proofs.Declared.{is_name, other}
-use Rattle.tree_edges.proofs.Lists.{behind}
+use Rattle.verilog_tree.specs.Items.{Has, here, further, item_name}
+use Rattle.verilog_tree.proofs.Once.{is_name, other}
+use Rattle.verilog_tree.proofs.Lists.{behind}
 use Rattle.late_unit.specs.Works.{unit_names}
 use Rattle.joined_module.specs.Unit.{unit_registers}
 

@@ -9,8 +9,8 @@ use Rattle.verilog_tree.specs.Tree.{Item, reg, wire, settles, name, sized, pick}
 use Rattle.verilog_tree.specs.Meaning.{Scope, Store, scope, width_of, nonzero, fit, chosen, run}
 use Rattle.verilog_tree.specs.WellFormed.{WellFormed, items_ok, ports_first, in_order, items_fit, limits}
 use Rattle.verilog_tree.proofs.Numbers.{fits}
-use Rattle.tree_edges.specs.Items.{Has, here, further}
-use Rattle.tree_edges.specs.Laws.{Declares, Settles}
+use Rattle.verilog_tree.specs.Items.{Has, here, further}
+use Rattle.verilog_tree.specs.Laws.{Declares, Settles}
 use Rattle.joined_core.specs.Circuit.{Room}
 use Rattle.joined_core.specs.Rows.{Site}
 use Rattle.joined_module.specs.Names.{found}

@@ -22,9 +22,9 @@ use Rattle.joined_module.specs.Machine.{RowCircuit, RowFork, innermost, operand_
 use Rattle.joined_module.specs.Machine.{deed_there, all_there}
 use Rattle.joined_module.specs.Machine.{worth_there, is_answered, is_open}
 use Rattle.joined_module.specs.Fits.{operand_within}
-use Rattle.tree_edges.specs.Items.{Has}
-use Rattle.tree_edges.specs.Laws.{Settles}
-use Rattle.tree_edges.proofs.Lists.{stands_at}
+use Rattle.verilog_tree.specs.Items.{Has}
+use Rattle.verilog_tree.specs.Laws.{Settles}
+use Rattle.verilog_tree.proofs.Lists.{stands_at}
 use Rattle.joined_edges.specs.Stands.{ForkIs}
 use Rattle.joined_edges.proofs.Operands.{OperandRight, input_is}
 use Rattle.joined_edges.proofs.Rows.{field_first, field_second}

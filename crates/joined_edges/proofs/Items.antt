@@ -1,8 +1,8 @@
 -- Where the groups of items stand in the module.
 use Rattle.std.proofs.Common.{ℕ, zero, suc, ◌+◌, Bool, List, [], ◌∷◌, ◌++◌, refl}
 use Rattle.verilog_tree.specs.Tree.{Item}
-use Rattle.tree_edges.specs.Items.{Has}
-use Rattle.tree_edges.proofs.Lists.{in_front, behind}
+use Rattle.verilog_tree.specs.Items.{Has}
+use Rattle.verilog_tree.proofs.Lists.{in_front, behind}
 use Rattle.joined_clock.proofs.Offs.{Ok, ok_behind, ok_in_front}
 use Rattle.joined_core.specs.Circuit.{Room}
 use Rattle.joined_module.specs.Rows.{ModuleRow}

@@ -15,7 +15,7 @@ use Rattle.joined_module.specs.Module.{Widths, widths, found_rows, fork_stmt}
 use Rattle.joined_module.specs.Machine.{tagged_at, RowCircuit, base_of, forks_after, cells_after, pointers_from, operand_value}
 use Rattle.joined_module.specs.Machine.{operand_there, is_open, answers_deed}
 use Rattle.joined_module.specs.Fits.{operand_within}
-use Rattle.tree_edges.specs.Laws.{Declares, Settles}
+use Rattle.verilog_tree.specs.Laws.{Declares, Settles}
 use Rattle.joined_found.specs.Found.{Each, next_field}
 use Rattle.joined_found.proofs.Eaches.{each_map}
 use Rattle.joined_edges.specs.Timed.{Timed}

@@ -17,9 +17,9 @@ use Rattle.joined_found.specs.Found.{Each}
 use Rattle.joined_found.proofs.Eaches.{each_map, each_both}
 use Rattle.joined_found.proofs.Bits.{bits_fit, bits_some}
 use Rattle.joined_found.proofs.Fits.{fields_wide}
-use Rattle.tree_edges.specs.Items.{Has, here, further}
-use Rattle.tree_edges.specs.Laws.{Declares, Settles}
-use Rattle.tree_edges.proofs.Lists.{stands_at, item_at}
+use Rattle.verilog_tree.specs.Items.{Has, here, further}
+use Rattle.verilog_tree.specs.Laws.{Declares, Settles}
+use Rattle.verilog_tree.proofs.Lists.{stands_at, item_at}
 use Rattle.joined_edges.specs.Stands.{pointer_width}
 use Rattle.joined_edges.proofs.Items.{in_words, in_fork_boxes, in_place, in_slots, in_fields, in_sigs, in_boxes, in_store, in_rest}
 use Rattle.joined_edges.proofs.Sources.{Wide}

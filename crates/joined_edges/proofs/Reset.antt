@@ -8,9 +8,9 @@ use Rattle.pcf_values.specs.declared.val.Val.TheVariants.{Number}
 use Rattle.verilog_tree.specs.Tree.{upto, count, one, Item, reg, input}
 use Rattle.verilog_tree.specs.Meaning.{Scope, Store, width_of, flag, fit, nonzero, chosen, fire}
 use Rattle.verilog_tree.proofs.Numbers.{fits}
-use Rattle.tree_edges.specs.Items.{Has, here, further}
-use Rattle.tree_edges.specs.Laws.{Declares, Settles}
-use Rattle.tree_edges.proofs.Lists.{stands_at}
+use Rattle.verilog_tree.specs.Items.{Has, here, further}
+use Rattle.verilog_tree.specs.Laws.{Declares, Settles}
+use Rattle.verilog_tree.proofs.Lists.{stands_at}
 use Rattle.late_unit.proofs.Steps.{late_reset}
 use Rattle.joined_core.specs.Circuit.{Room}
 use Rattle.joined_core.specs.Rows.{Site, nowhere}
@@ -28,16 +28,12 @@ use Rattle.joined_found.proofs.Fits.{fields_wide, IsWide}
 use Rattle.joined_clock.proofs.Offs.{Ok, ok_in_front}
 use Rattle.joined_clock.proofs.Clock.{E}
 use Rattle.joined_clock.proofs.Fetched.{each_in, Upto}
-use Rattle.joined_edges.specs.Timed.{Timed, timed_start}
+use Rattle.joined_edges.specs.Timed.{Timed, starts_right, timed_start}
 use Rattle.joined_edges.specs.Stands.{Going, Standing, Stands}
 use Rattle.joined_edges.proofs.Finding.{R, W, fs, b, is, P, goes_is, found_now, fields_taken}
 use Rattle.joined_edges.proofs.Items.{in_ports, in_args, in_fields, in_held, in_store}
 use Rattle.joined_edges.proofs.Units.{unit_rests}
 use Rattle.joined_edges.proofs.ResetClock as clock
-
--- the run begins at a key whose rows see nothing, and where none waits
-abbrev pub starts_right : ModuleTable → Bool
-starts_right T = rows_see T.rows T.start nowhere && not (has_key T.rows T.start && is_waited T.rows T.start)
 
 -- no row is found where none has the key
 pub none_here : (rows : List ModuleRow) (k : ℕ) (e : Sees) → has_key rows k ≡ false → find_row rows k e ≡ None

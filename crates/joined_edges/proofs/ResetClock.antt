@@ -8,8 +8,8 @@ use Rattle.verilog_tree.specs.Tree.{Width, Stmt, Item, reg, count, num}
 use Rattle.verilog_tree.specs.Meaning.{Scope, Store, chosen, nonzero, flag, fit, set_vec, fire}
 use Rattle.verilog_tree.proofs.Leaves.{spares, fire_spares}
 use Rattle.circuit_module.specs.Fixed.{set, block}
-use Rattle.tree_edges.specs.Items.{Has, here}
-use Rattle.tree_edges.proofs.Blocks.{set_here}
+use Rattle.verilog_tree.specs.Items.{Has, here}
+use Rattle.verilog_tree.proofs.Settled.{set_here}
 use Rattle.late_unit.specs.Works.{unit_names, After}
 use Rattle.joined_module.specs.Names.{held_name, arg_name, found}
 use Rattle.joined_module.specs.Fields.{Field}

@@ -4,10 +4,9 @@ use Rattle.verilog_tree.specs.Tree.{count, plus, num, sized, name, bit, part, ca
 use Rattle.verilog_tree.specs.Tree.{size, constant, input, output, reg, memory, wire}
 use Rattle.verilog_tree.specs.Tree.{settles, clocked}
 use Rattle.verilog_tree.specs.Meaning.{Scope, Store, scope, assigned}
-use Rattle.verilog_tree.specs.Laws.{Rests}
-use Rattle.tree_edges.specs.Items.{Has, here, further}
-use Rattle.tree_edges.specs.Laws.{Declares, Settles}
-use Rattle.tree_edges.proofs.Lists.{in_front, behind, stands_at}
+use Rattle.verilog_tree.specs.Items.{Has, here, further}
+use Rattle.verilog_tree.specs.Laws.{Rests, Declares, Settles}
+use Rattle.verilog_tree.proofs.Lists.{in_front, behind, stands_at}
 use Rattle.late_numbers.specs.Unit.{quarter_registers, meet_wires}
 use Rattle.late_numbers.specs.ProductUnit.{product_registers, met_wires}
 use Rattle.late_unit.specs.Works.{Declared, UnitRests, unit_items, own_items}

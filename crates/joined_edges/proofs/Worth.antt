@@ -9,8 +9,7 @@ use Rattle.pcf_values.specs.Values.{val_op}
 use Rattle.verilog_tree.specs.Meaning.{Store, Scope, flag, fit, nonzero, chosen, fire}
 use Rattle.verilog_tree.proofs.Numbers.{fits}
 use Rattle.circuit_module.specs.Stands.{value_number, Small}
-use Rattle.circuit_module.proofs.Values.{value_low, fit_flag}
-use Rattle.circuit_module.proofs.Boths.{op_small}
+use Rattle.circuit_module.proofs.Values.{value_low, fit_flag, op_small}
 use Rattle.late_unit.specs.Works.{UnitRests, After, Works, NoLast, NotYet, Tells, unit_items, edges_of, is_minus, is_times}
 use Rattle.late_unit.proofs.Over.{over_is}
 use Rattle.late_unit.proofs.Steps.{late_free, late_rests, late_starts, late_goes, late_busy, late_takes, late_tells}

@@ -13,7 +13,7 @@ use Rattle.joined_module.specs.Module.{Widths, widths, found_rows, fork_stmt, mo
 use Rattle.joined_module.specs.Machine.{Tagged, tagged_at, RowCircuit, innermost, is_open, base_of, forks_after, cells_after, pointers_from}
 use Rattle.joined_module.specs.Machine.{operand_value, takes_words, row_there}
 use Rattle.joined_module.specs.Fits.{row_within, row_sound}
-use Rattle.tree_edges.specs.Laws.{Declares, Settles}
+use Rattle.verilog_tree.specs.Laws.{Declares, Settles}
 use Rattle.joined_clock.specs.Laws.{now_stmt}
 use Rattle.joined_edges.specs.Timed.{Timed, Among}
 use Rattle.joined_edges.specs.Stands.{pointer_number, PointerFits, InRegisters, InCell, ForkIs, InForks, Going}

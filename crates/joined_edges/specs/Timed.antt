@@ -5,14 +5,14 @@ use Rattle.std.specs.Prelude.{◌≡◌, ◌⊎◌, ℕ, zero, suc, ◌-◌, Boo
 use Rattle.std.specs.Prelude.{Option, Some, None, nat_eq, nat_lt, if◌then◌else◌}
 use Rattle.late_unit.specs.Works.{edges_of}
 use Rattle.joined_core.specs.Circuit.{Room}
-use Rattle.joined_core.specs.Rows.{Site, on_sigs, on_boxes}
+use Rattle.joined_core.specs.Rows.{Site, nowhere, on_sigs, on_boxes}
 use Rattle.joined_module.specs.Rows.{Worth, comes_to, sees_nothing, ModuleRow, is_new_cell, row_looks}
 use Rattle.joined_module.specs.Fields.{needs_value, tests_value, sees_later, takes_operand, opens_fork, kept_operand, is_kept, answers_in}
-use Rattle.joined_module.specs.Module.{ModuleTable, waiting_row, found_rows}
+use Rattle.joined_module.specs.Module.{ModuleTable, is_waited, waiting_row, found_rows}
 use Rattle.joined_module.specs.Machine.{Tagged, RowCircuit, seen_by, find_row, base_of, operand_value, place_after, row_made, row_start}
 use Rattle.joined_module.specs.Machine.{looked_place}
 use Rattle.joined_module.specs.Machine.{row_there, read_there, takes_words}
-use Rattle.joined_found.specs.Found.{next_row, rows_see}
+use Rattle.joined_found.specs.Found.{next_row, has_key, rows_see}
 
 -- rows with what is waited for
 pub record Timed : Type 0 where
@@ -131,6 +131,10 @@ something w ss bs = true
 -- a row that ends the run makes nothing
 abbrev pub ends_calm : ModuleRow → Bool
 ends_calm r = not r.ends || not (r.makes || opens_fork r.fork)
+
+-- a row of the first key sees nothing, and none waits there
+abbrev pub starts_right : ModuleTable → Bool
+starts_right T = rows_see T.rows T.start nowhere && not (has_key T.rows T.start && is_waited T.rows T.start)
 
 -- a row that is made finds what it reads
 pub record RowRight (ps : ℕ → ℕ) (rows : List ModuleRow) (t : Timed) (r : ModuleRow) : Type 0 where

@@ -6,9 +6,9 @@ use Rattle.std.proofs.lemmas.Bool.{and_parts, or_parts, ltb-true, not-true}
 use Prim.Native.String.{String}
 use Rattle.verilog_tree.specs.Tree.{Stmt, reg, name, num, branch, seq, skip, put, word_at}
 use Rattle.verilog_tree.proofs.Leaves.{fire_spares}
-use Rattle.tree_edges.specs.Laws.{Declares, Settles}
-use Rattle.tree_edges.proofs.Lists.{stands_at}
-use Rattle.tree_edges.proofs.Blocks.{set_here}
+use Rattle.verilog_tree.specs.Laws.{Declares, Settles}
+use Rattle.verilog_tree.proofs.Lists.{stands_at}
+use Rattle.verilog_tree.proofs.Settled.{set_here}
 use Rattle.late_unit.specs.Works.{Works}
 use Rattle.verilog_tree.specs.Meaning.{Scope, Store, chosen, fit, flag, nonzero, holds, assigned, fire}
 use Rattle.verilog_tree.specs.WellFormed.{WellFormed}

@@ -6,7 +6,7 @@ use Prim.Native.String.{String}
 use Rattle.verilog_tree.specs.Tree.{Item, one, output, name, num, logic, none, both}
 use Rattle.verilog_tree.specs.Meaning.{Scope, Store, chosen, flag, fit, nonzero, holds, fire}
 use Rattle.verilog_tree.specs.WellFormed.{WellFormed}
-use Rattle.tree_edges.proofs.Lists.{stands_at}
+use Rattle.verilog_tree.proofs.Lists.{stands_at}
 use Rattle.joined_core.specs.Circuit.{Room}
 use Rattle.joined_module.specs.Module.{ModuleTable, joined_ports, store_registers, act_stmt, joined_module}
 use Rattle.joined_clock.specs.Laws.{now_stmt}
@@ -41,12 +41,12 @@ module _ (T : ModuleTable) (z : Room) (n : ℕ) (right : WellFormed (joined_modu
   low = ap nonzero rst_is
 
   -- a port's width, and one of the store
-  pub port_wide : (k : ℕ) (i : Item) → Rattle.tree_edges.proofs.Lists.item_at joined_ports k ≡ Some i → (x : String) →
-      Rattle.tree_edges.specs.Items.item_name i ≡ Some x → PP.width x ≡ Rattle.tree_edges.specs.Items.item_wide PP.param i
+  pub port_wide : (k : ℕ) (i : Item) → Rattle.verilog_tree.proofs.Lists.item_at joined_ports k ≡ Some i → (x : String) →
+      Rattle.verilog_tree.specs.Items.item_name i ≡ Some x → PP.width x ≡ Rattle.verilog_tree.specs.Items.item_wide PP.param i
   port_wide k i e x g = (declares T z n right).width i (in_ports (rows T z n) z T.start n (b T z n) i (stands_at joined_ports k i e)) x g
 
-  pub store_wide : (k : ℕ) (i : Item) → Rattle.tree_edges.proofs.Lists.item_at (store_registers (W T z n)) k ≡ Some i → (x : String) →
-      Rattle.tree_edges.specs.Items.item_name i ≡ Some x → PP.width x ≡ Rattle.tree_edges.specs.Items.item_wide PP.param i
+  pub store_wide : (k : ℕ) (i : Item) → Rattle.verilog_tree.proofs.Lists.item_at (store_registers (W T z n)) k ≡ Some i → (x : String) →
+      Rattle.verilog_tree.specs.Items.item_name i ≡ Some x → PP.width x ≡ Rattle.verilog_tree.specs.Items.item_wide PP.param i
   store_wide k i e x g = (declares T z n right).width i
       (in_store (rows T z n) z T.start n (b T z n) i (stands_at (store_registers (W T z n)) k i e)) x g
 

@@ -8,7 +8,7 @@ use Rattle.verilog_tree.specs.Meaning.{Scope, Store, chosen, flag, fit, nonzero,
 use Rattle.verilog_tree.specs.WellFormed.{WellFormed}
 use Rattle.verilog_tree.proofs.Leaves.{fire_spares}
 use Rattle.circuit_module.specs.Fixed.{set, block}
-use Rattle.tree_edges.proofs.Lists.{in_front, stands_at}
+use Rattle.verilog_tree.proofs.Lists.{in_front, stands_at}
 use Rattle.joined_core.specs.Circuit.{Room}
 use Rattle.joined_module.specs.Names.{sig_name, box_name, next_sig_name, next_box_name, new_word_name}
 use Rattle.joined_module.specs.Unit.{unit_registers}

@@ -8,8 +8,8 @@ use Rattle.verilog_tree.specs.Tree.{word, part, count, name}
 use Rattle.verilog_tree.specs.Meaning.{Store}
 use Rattle.verilog_tree.proofs.Own.{one_name}
 use Rattle.circuit_module.specs.Fixed.{set, block}
-use Rattle.tree_edges.specs.Items.{Has, Sets, assigns, in_first, in_second, in_then, in_else}
-use Rattle.tree_edges.specs.Laws.{Settles}
+use Rattle.verilog_tree.specs.Items.{Has, Sets, assigns, in_first, in_second, in_then, in_else}
+use Rattle.verilog_tree.specs.Laws.{Settles}
 use Rattle.late_unit.specs.Works.{unit_names, UnitSame}
 use Rattle.joined_module.specs.Names.{arg_name, held_name, sig_name, box_name, next_sig_name, next_box_name, found}
 use Rattle.joined_module.specs.Fields.{Field}

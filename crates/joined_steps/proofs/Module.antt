@@ -4,12 +4,11 @@ use Prim.Native.String.{String}
 use Rattle.verilog_tree.specs.Tree.{Expr, Item, clocked}
 use Rattle.verilog_tree.specs.Meaning.{Scope, Store, scope, settled, edge}
 use Rattle.verilog_tree.specs.WellFormed.{WellFormed}
-use Rattle.verilog_tree.proofs.Lists.{unclocked, clocked_over}
-use Rattle.tree_edges.specs.Items.{Has}
-use Rattle.tree_edges.specs.Laws.{Declares, Settles}
-use Rattle.tree_edges.proofs.Declared.{items_of, tree_declares}
-use Rattle.tree_edges.proofs.Settling.{tree_settles}
-use Rattle.tree_edges.proofs.Lists.{stands_at}
+use Rattle.verilog_tree.specs.Items.{Has}
+use Rattle.verilog_tree.specs.Laws.{Declares, Settles}
+use Rattle.verilog_tree.proofs.Once.{items_of, tree_declares}
+use Rattle.verilog_tree.proofs.Kept.{tree_settles}
+use Rattle.verilog_tree.proofs.Lists.{unclocked, clocked_over, stands_at}
 use Rattle.joined_core.specs.Circuit.{Room}
 use Rattle.joined_module.specs.Names.{sig_name, box_name, word_name, fork_box_name}
 use Rattle.joined_module.specs.Rows.{ModuleRow}

@@ -7,8 +7,8 @@ use lib.Text.{eqt}
 use Rattle.verilog_tree.specs.Tree.{Item, Width, count, reg}
 use Rattle.verilog_tree.specs.Meaning.{Store, chosen, set_vec}
 use Rattle.verilog_tree.specs.WellFormed.{member}
-use Rattle.tree_edges.specs.Items.{Has, item_name}
-use Rattle.tree_edges.proofs.Lists.{in_front, behind}
+use Rattle.verilog_tree.specs.Items.{Has, item_name}
+use Rattle.verilog_tree.proofs.Lists.{in_front, behind}
 use Rattle.joined_module.specs.Names.{arg_name, held_name, sig_name, box_name}
 use Rattle.joined_module.specs.Fields.{Field, vector_wide}
 use Rattle.joined_module.specs.Ports.{arg_inputs, held_regs, set_args}

@@ -7,7 +7,7 @@ use Rattle.pcf_values.specs.declared.val.Val.{Val}
 use Rattle.verilog_tree.specs.Meaning.{Scope, Store, flag, fit, nonzero, settled}
 use Rattle.verilog_tree.specs.Tree.{one}
 use Rattle.verilog_tree.specs.WellFormed.{WellFormed}
-use Rattle.tree_edges.proofs.Lists.{stands_at}
+use Rattle.verilog_tree.proofs.Lists.{stands_at}
 use Rattle.circuit_module.proofs.Values.{fit_flag}
 use Rattle.late_unit.specs.Works.{UnitRests, Works}
 use Rattle.late_unit.proofs.Steps.{late_free, late_busy, late_tells}

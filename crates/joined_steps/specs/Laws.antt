@@ -1,24 +1,19 @@
 -- An edge of the module is a row, one that waits, or a rest: the statements of `law_joined_edges`.
 -- Of the world it is asked that `rst` is stable around each edge, and that all has settled before it. What is read past the end of a
 -- vector or a memory is anything, afresh at each edge, and so is what is at the ports of arguments but at the start.
-use Rattle.std.specs.Prelude.{◌≡◌, ◌<◌, ℕ, ◌^◌, Bool, true, false, not, ◌&&◌, List, length}
+use Rattle.std.specs.Prelude.{◌≡◌, ◌<◌, ℕ, ◌^◌, true, false, List, length}
 use Prim.Native.String.{String}
 use Rattle.verilog_tree.specs.Meaning.{Store, edge, set_vec}
 use Rattle.verilog_tree.specs.WellFormed.{WellFormed}
 use Rattle.joined_core.specs.Circuit.{Room}
-use Rattle.joined_core.specs.Rows.{nowhere}
 use Rattle.joined_module.specs.Names.{arg_name}
 use Rattle.joined_module.specs.Ports.{set_args}
-use Rattle.joined_module.specs.Module.{ModuleTable, is_waited, joined_module}
+use Rattle.joined_module.specs.Module.{ModuleTable, joined_module}
 use Rattle.joined_module.specs.Machine.{Tagged}
 use Rattle.joined_module.specs.Fits.{module_fits}
-use Rattle.joined_found.specs.Found.{each_row, has_key, rows_see, rows_land, rows_keyed}
-use Rattle.joined_edges.specs.Timed.{Timed, TimedRight, ends_calm, timed_edge, timed_start}
+use Rattle.joined_found.specs.Found.{each_row, rows_land, rows_keyed}
+use Rattle.joined_edges.specs.Timed.{Timed, TimedRight, ends_calm, starts_right, timed_edge, timed_start}
 use Rattle.joined_edges.specs.Stands.{Stands}
-
--- a row of the first key sees nothing, and none waits there
-abbrev pub starts_right : ModuleTable → Bool
-starts_right T = rows_see T.rows T.start nowhere && not (has_key T.rows T.start && is_waited T.rows T.start)
 
 -- what is asked of a table
 pub record TableFits (T : ModuleTable) (z : Room) (n : ℕ) : Type 0 where

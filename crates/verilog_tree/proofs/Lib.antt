@@ -16,9 +16,13 @@ pub mod Leaves
 pub mod Alike
 -- what lists of items declare
 pub mod Declares
--- what settles of a list, and what the clock writes
+-- what stands in a list, what settles of it, and what the clock writes
 pub mod Lists
 -- what a statement leaves alone by the test of well-formed trees
 pub mod Spared
+-- names are declared once
+pub mod Once
 -- what has settled
 pub mod Settled
+-- what doesn't settle
+pub mod Kept

@@ -1,12 +1,33 @@
--- Lists of items one behind the other: what settles of them, and what the blocks of the clock write.
-use Rattle.std.proofs.Common.{◌≡◌, Bool, true, false, ◌&&◌, List, [], ◌∷◌, ◌++◌, refl, subst}
+-- Lists of items one behind the other: what stands in them, what settles of them, and what the blocks of the clock write.
+use Rattle.std.proofs.Common.{◌≡◌, ℕ, zero, suc, Bool, true, false, ◌&&◌, List, [], ◌∷◌, ◌++◌, Option, Some, None, refl, subst}
 use Rattle.std.proofs.lemmas.Bool.{and_parts}
 use Rattle.std.proofs.lemmas.List.{append-nil}
 use Prim.Native.String.{String}
 use Rattle.verilog_tree.specs.Tree.{Item, wire, settles, clocked, whole}
 use Rattle.verilog_tree.specs.Meaning.{Store, Scope, write, run, settled, clocked_in}
+use Rattle.verilog_tree.specs.Items.{Has, here, further}
 use Rattle.verilog_tree.proofs.Frames.{items_leave, settled_leaves}
 use Rattle.verilog_tree.proofs.Alike as alike
+
+pub in_front : (i : Item) (is js : List Item) → Has i is → Has i (is ++ js)
+in_front i [] js h = elim h [ ]
+in_front i (j ∷ is) js (here is') = here (is ++ js)
+in_front i (j ∷ is) js (further j' is' h) = further j (is ++ js) (in_front i is js h)
+
+pub behind : (i : Item) (is js : List Item) → Has i js → Has i (is ++ js)
+behind i [] js h = h
+behind i (j ∷ is) js h = further j (is ++ js) (behind i is js h)
+
+-- the item at a place
+abbrev pub item_at : List Item → ℕ → Option Item
+item_at [] n = None
+item_at (i ∷ is) zero = Some i
+item_at (i ∷ is) (suc n) = item_at is n
+
+pub stands_at : (is : List Item) (n : ℕ) (i : Item) → item_at is n ≡ Some i → Has i is
+stands_at [] n i e = absurd cc
+stands_at (j ∷ is) zero i e = subst (λ k. Has k (j ∷ is)) (let h : j ≡ i = cc in h) (here is)
+stands_at (j ∷ is) (suc n) i e = further j is (stands_at is n i e)
 
 -- what settles of a list, and then of the next
 pub settled_append : (P : Scope) (is js : List Item) (S : Store) → settled P (is ++ js) S ≡ settled P js (settled P is S)

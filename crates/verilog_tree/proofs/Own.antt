@@ -1,14 +1,10 @@
 -- Names of two kinds: what is told of a kind by a test tells them apart.
 use Rattle.std.proofs.Common.{◌≡◌, Bool, true, false, not, ◌||◌, refl, ap, sym, subst, ◌∙◌}
-use Rattle.std.proofs.lemmas.Bool.{true_from_ne_false}
+use Rattle.std.proofs.lemmas.Bool.{true_from_ne_false, false_from_ne_true}
 use Rattle.std.proofs.lemmas.Float.{T_from_true}
 use Prim.Native.String.{String}
 use lib.Dec.{T}
 use lib.Text.{eqt, eqt→eq, eqt_refl}
-
-no_is : (b : Bool) → (b ≡ true → ⊥) → b ≡ false
-no_is true h = absurd (h refl)
-no_is false h = refl
 
 pub one_name : (x y : String) → eqt x y ≡ true → x ≡ y
 one_name x y e = eqt→eq x y (T_from_true (eqt x y) e)
@@ -23,7 +19,7 @@ off_either false h = absurd cc
 
 -- texts that aren't the same
 pub apart_names : (x y : String) → (x ≡ y → ⊥) → eqt x y ≡ false
-apart_names x y h = no_is (eqt x y) (λ e. h (one_name x y e))
+apart_names x y h = false_from_ne_true (eqt x y) (λ e. h (one_name x y e))
 
 -- a name of the one kind isn't one of the other
 pub foreign : (own : String → Bool) (x y : String) → own x ≡ true → own y ≡ false → eqt x y ≡ false

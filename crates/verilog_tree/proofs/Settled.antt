@@ -2,27 +2,31 @@
 use Rattle.std.proofs.Common.{◌≡◌, ℕ, suc, ◌+◌, ◌*◌, ◌/◌, ◌%◌, ◌^◌, ◌-◌, max, Bool, true, false, not, ◌&&◌, ◌||◌, List, [], ◌∷◌, ◌++◌}
 use Rattle.std.proofs.Common.{refl, ap, sym, subst, ◌∙◌, ◌⊎◌, inl, inr}
 use Rattle.std.specs.Prelude.{nat_eq, nat_lt}
-use Rattle.std.proofs.lemmas.Bool.{and_parts, and_from, or_parts, or_from, or_left, or_right, not-true}
+use Rattle.std.proofs.lemmas.Bool.{and_parts, and_from, or_parts, or_left, or_right, not-true}
 use Prim.Native.String.{String}
 use lib.Text.{eqt}
 use Rattle.verilog_tree.specs.Tree.{Expr, num, sized, const, name, bit, part, word, cat, inverse, two, shift, test, logic, none, any}
-use Rattle.verilog_tree.specs.Tree.{every, pick, Target, whole, word_at, Stmt, skip, put, seq, branch, cases, Arms, otherwise, arm, Item}
-use Rattle.verilog_tree.specs.Tree.{note, gap, size, constant, input, output, reg, memory, wire, settles, clocked}
+use Rattle.verilog_tree.specs.Tree.{every, pick, whole, word_at, Stmt, skip, put, seq, branch, cases, Arms, otherwise, arm, Item, wire}
+use Rattle.verilog_tree.specs.Tree.{settles}
 use Rattle.verilog_tree.specs.Print.{straight}
 use Rattle.verilog_tree.specs.Meaning.{Scope, Store, amount, flag, chosen, fit, bits, two_value, shift_value, test_value, logic_value}
-use Rattle.verilog_tree.specs.Meaning.{nonzero, value, own, holds, assigned, set_vec, write, widest_arm, labelled, run, run_arms}
-use Rattle.verilog_tree.specs.Meaning.{settled, scope}
-use Rattle.verilog_tree.specs.WellFormed.{member, outside, reads, all_read, index_reads, block_reads, arms_read, common, sets_first}
+use Rattle.verilog_tree.specs.Meaning.{nonzero, value, holds, assigned, set_vec, write, widest_arm, labelled, run, run_arms, settled, scope}
+use Rattle.verilog_tree.specs.WellFormed.{member, outside, reads, all_read, block_reads, arms_read, common, sets_first}
 use Rattle.verilog_tree.specs.WellFormed.{first_reads, apart, Kind, a_size, a_constant, an_input, a_register, a_wire, a_bit_input}
 use Rattle.verilog_tree.specs.WellFormed.{a_bit_register, a_bit_wire, a_clock, a_memory, Entry, of_kind, register, is_memory}
-use Rattle.verilog_tree.specs.WellFormed.{expr_ok, exprs_ok, said_ok, stmt_ok, arms_ok, item_ok, items_ok, settling, in_order, WellFormed}
-use Rattle.verilog_tree.specs.WellFormed.{ports_first, items_fit, limits}
+use Rattle.verilog_tree.specs.WellFormed.{expr_ok, exprs_ok, said_ok, stmt_ok, arms_ok, item_ok, items_ok, declared, driven, settling}
+use Rattle.verilog_tree.specs.WellFormed.{in_order, ports_first, items_fit, limits}
 use Rattle.verilog_tree.specs.Laws.{Rests, SettlesOnce, SettledStays}
 use Rattle.verilog_tree.proofs.Own.{one_name, same_name, off_either}
 use Rattle.verilog_tree.proofs.Frames.{leaves, leaves_arms, calm, calm_arms, items_leave, items_calm, run_leaves, run_calm}
 use Rattle.verilog_tree.proofs.Frames.{settled_leaves, settled_calm}
+use Rattle.verilog_tree.proofs.Once.{head_ok, tail_ok, items_of}
 
 -- ---- names
+
+-- a name holds what it was set to
+pub set_here : (x : String) (n : ℕ) (S : Store) → (set_vec x n S).vec x ≡ n
+set_here x n S = ap (λ b. chosen b n (S.vec x)) (same_name x)
 
 -- one of two is so
 one_or : (a b : Bool) → (a || b) ≡ true → (a ≡ true) ⊎ (b ≡ true)
@@ -30,7 +34,7 @@ one_or true b h = inl refl
 one_or false b h = inr h
 
 -- a name of either list, and of both
-member_append : (x : String) (xs ys : List String) → member x (xs ++ ys) ≡ (member x xs || member x ys)
+pub member_append : (x : String) (xs ys : List String) → member x (xs ++ ys) ≡ (member x xs || member x ys)
 member_append x [] ys = refl
 member_append x (y ∷ xs) ys = assoc (eqt y x) (member x xs) (member x ys) (member x (xs ++ ys)) (member_append x xs ys)
   where
@@ -77,7 +81,7 @@ either_or true = refl
 either_or false = refl
 
 -- lists without a name in common
-apart_from : (x : String) (xs ys : List String) → apart xs ys ≡ true → member x ys ≡ true → outside xs x ≡ true
+pub apart_from : (x : String) (xs ys : List String) → apart xs ys ≡ true → member x ys ≡ true → outside xs x ≡ true
 apart_from x [] ys a m = refl
 apart_from x (y ∷ xs) ys a m =
     let (b, c) = and_parts (not (member y ys)) (apart xs ys) a in go (eqt y x) refl b (apart_from x xs ys c m)
@@ -325,13 +329,13 @@ module _ (P : Scope) where
 -- ---- what a tree that is well formed gives
 
 -- a block writes vectors alone, those that it sets first
-record Block (s : Stmt) : Type 0 where
-  calm : calm s ≡ true
-  first : first_reads (sets_first s) s ≡ true
-  mine : (x : String) → outside (sets_first s) x ≡ true → leaves x s ≡ true
+pub record Block (s : Stmt) : Type 0 where
+  pub calm : calm s ≡ true
+  pub first : first_reads (sets_first s) s ≡ true
+  pub mine : (x : String) → outside (sets_first s) x ≡ true → leaves x s ≡ true
 
 -- each block of a list
-abbrev Blocks : List Item → Type 0
+abbrev pub Blocks : List Item → Type 0
 Blocks [] = Unit {0}
 Blocks (settles s ∷ is) = Block s × Blocks is
 Blocks (i ∷ is) = Blocks is
@@ -370,7 +374,7 @@ module _ (E : List Entry) (ms : List String) where
   of_seq x false xs ys k f g m = f m
 
   -- what is set first are registers
-  sets_registers : (s : Stmt) → stmt_ok E ms s ≡ true → (x : String) → member x (sets_first s) ≡ true → of_kind register E x ≡ true
+  pub sets_registers : (s : Stmt) → stmt_ok E ms s ≡ true → (x : String) → member x (sets_first s) ≡ true → of_kind register E x ≡ true
   sets_registers skip h x m = absurd cc
   sets_registers (put (whole y) e) h x m =
       let (a, b) = and_parts (of_kind register E y && member y ms) (expr_ok E e) h in
@@ -451,21 +455,11 @@ block_of E ds s h =
     }
 
 -- the blocks of a module whose items are in order are such
-blocks_of : (is : List Item) (E : List Entry) (ds : List String) → items_ok E ds is ≡ true → Blocks is
+pub blocks_of : (is : List Item) (E : List Entry) (ds : List String) → items_ok E ds is ≡ true → Blocks is
 blocks_of [] E ds h = record {}
 blocks_of (settles s ∷ is) E ds h =
-    let (a, b) = and_parts (item_ok E ds (settles s)) (items_ok E (sets_first s ++ ds) is) h in
-    (block_of E ds s a, blocks_of is E (sets_first s ++ ds) b)
-blocks_of (note s ∷ is) E ds h = blocks_of is _ _ (and_parts (item_ok E ds (note s)) _ h).1
-blocks_of (gap ∷ is) E ds h = blocks_of is _ _ (and_parts (item_ok E ds gap) _ h).1
-blocks_of (size x n ∷ is) E ds h = blocks_of is _ _ (and_parts (item_ok E ds (size x n)) _ h).1
-blocks_of (constant w x n ∷ is) E ds h = blocks_of is _ _ (and_parts (item_ok E ds (constant w x n)) _ h).1
-blocks_of (input w x ∷ is) E ds h = blocks_of is _ _ (and_parts (item_ok E ds (input w x)) _ h).1
-blocks_of (output w x ∷ is) E ds h = blocks_of is _ _ (and_parts (item_ok E ds (output w x)) _ h).1
-blocks_of (reg w x ∷ is) E ds h = blocks_of is _ _ (and_parts (item_ok E ds (reg w x)) _ h).1
-blocks_of (memory w x k ∷ is) E ds h = blocks_of is _ _ (and_parts (item_ok E ds (memory w x k)) _ h).1
-blocks_of (wire w x e ∷ is) E ds h = blocks_of is _ _ (and_parts (item_ok E ds (wire w x e)) _ h).1
-blocks_of (clocked s ∷ is) E ds h = blocks_of is _ _ (and_parts (item_ok E ds (clocked s)) _ h).1
+    (block_of E ds s (head_ok E ds (settles s) is h), blocks_of is E (sets_first s ++ ds) (tail_ok E ds (settles s) is h))
+blocks_of (i ∷ is) E ds h = blocks_of is (declared E i) (driven ds i) (tail_ok E ds i is h)
 
 module _ (P : Scope) where
   -- what no item settles, all leave
@@ -486,7 +480,7 @@ module _ (P : Scope) where
   all_calm (i ∷ is) b = all_calm is b
 
   -- what all below leave
-  below : (is : List Item) → Blocks is → (S : Store) → Same (outside (settling is)) (settled P is S) S
+  pub below : (is : List Item) → Blocks is → (S : Store) → Same (outside (settling is)) (settled P is S) S
   below is b S = record {
     vec = λ x o. settled_leaves P x is (rest_leaves x is b o) S;
     mem = settled_calm P is (all_calm is b) S;
@@ -499,9 +493,6 @@ module _ (P : Scope) where
       go : (y : String) (b : Bool) → eqt x y ≡ b → chosen b n (S.vec y) ≡ S.vec y
       go y true q = sym e ∙ ap S.vec (one_name x y q)
       go y false q = refl
-
-  set_here : (x : String) (n : ℕ) (S : Store) → (set_vec x n S).vec x ≡ n
-  set_here x n S = ap (λ b. chosen b n (S.vec x)) (same_name x)
 
   -- a wire is its expression where all below it has settled
   wire_rests : (x : String) (e : Expr) (is : List Item) → Blocks is → reads (outside (x ∷ settling is)) e ≡ true →
@@ -562,15 +553,7 @@ module _ (P : Scope) where
       let (f, g) = and_parts (block_reads (outside (settling is)) s) (not (block_reads (λ x. member x (sets_first s)) s)) c in
       let (k, l) = and_parts (apart (sets_first s) (settling is)) (in_order is) d in
       (block_rests s is b bs f (λ x m. apart_from x (sets_first s) (settling is) k m) S, rests is bs l (run P s S))
-  rests (note s ∷ is) b o S = rests is b o S
-  rests (gap ∷ is) b o S = rests is b o S
-  rests (size x n ∷ is) b o S = rests is b o S
-  rests (constant w x n ∷ is) b o S = rests is b o S
-  rests (input w x ∷ is) b o S = rests is b o S
-  rests (output w x ∷ is) b o S = rests is b o S
-  rests (reg w x ∷ is) b o S = rests is b o S
-  rests (memory w x k ∷ is) b o S = rests is b o S
-  rests (clocked s ∷ is) b o S = rests is b o S
+  rests (i ∷ is) b o S = rests is b o S
 
   -- where all is at rest, to settle changes nothing
   at_rest : (is : List Item) (S : Store) → Rests P is S → settled P is S ≡ S
@@ -582,11 +565,8 @@ module _ (P : Scope) where
 
 pub settles_once : SettlesOnce
 settles_once is h S =
-    let (a, b) = and_parts (ports_first is && items_ok [] [] is)
-    (in_order is && items_fit (limits is) is) h in
-    let (c, d) = and_parts (ports_first is) (items_ok [] [] is) a in
-    let (e, f) = and_parts (in_order is) (items_fit (limits is) is) b in
-    rests (scope is) is (blocks_of is [] [] d) e S
+    let (a, b) = and_parts (ports_first is && items_ok [] [] is) (in_order is && items_fit (limits is) is) h in
+    rests (scope is) is (blocks_of is [] [] (items_of is h)) (and_parts (in_order is) (items_fit (limits is) is) b).0 S
 
 pub settled_stays : SettledStays
 settled_stays is h S = at_rest (scope is) is (settled (scope is) is S) (settles_once is h S)

@@ -12,7 +12,9 @@ pub mod Names
 pub mod Views
 -- Lists of bits as numbers.
 pub mod Bits
--- The laws of trees: the statement of `law_spared`.
+-- Items that stand in a tree, and what they declare.
+pub mod Items
+-- The laws of trees: their statements.
 pub mod Laws
 -- A module that the prover computes: the statements of `law_example_module`.
 pub mod Example

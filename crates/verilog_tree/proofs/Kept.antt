@@ -1,22 +1,19 @@
 -- Inputs and what a block of the clock assigns to don't settle.
-use Rattle.std.proofs.Common.{◌≡◌, Bool, true, false, not, ◌&&◌, ◌||◌, List, [], ◌∷◌, ◌++◌, Option, Some, None, refl, ap, sym, subst}
-use Rattle.std.proofs.Common.{◌∙◌}
-use Rattle.std.proofs.lemmas.Bool.{and_parts, or_parts, or_left, or_right, not-true}
+use Rattle.std.proofs.Common.{◌≡◌, Bool, true, false, not, ◌&&◌, ◌||◌, List, [], ◌∷◌, ◌++◌, Option, Some, None, refl, ap, sym, ◌∙◌}
+use Rattle.std.proofs.lemmas.Bool.{and_parts, or_parts, or_left, or_right, not-true, false_from_ne_true}
 use Prim.Native.String.{String}
 use lib.Text.{eqt}
-use Rattle.verilog_tree.specs.Tree.{Expr, whole, word_at, Stmt, skip, put, seq, branch, cases, Width, Item, note, gap, size}
+use Rattle.verilog_tree.specs.Tree.{Expr, whole, word_at, Stmt, skip, put, seq, branch, cases, Width, Item, size}
 use Rattle.verilog_tree.specs.Tree.{constant, input, output, reg, memory, wire, settles, clocked}
 use Rattle.verilog_tree.specs.Meaning.{Scope, Store, chosen, run, assigned, scope, settled}
 use Rattle.verilog_tree.specs.WellFormed.{member, outside, sets_first, first_reads, apart, targets, Kind, Entry, of_kind, register}
 use Rattle.verilog_tree.specs.WellFormed.{taken, is_clock, expr_ok, stmt_ok, item_ok, items_ok, declared, driven, kind_of, wire_kind}
 use Rattle.verilog_tree.specs.WellFormed.{input_kind, settling}
-use Rattle.verilog_tree.specs.Laws.{Rests}
+use Rattle.verilog_tree.specs.Items.{Has, here, further, item_name, Sets, assigns, in_first, in_second, in_then, in_else}
+use Rattle.verilog_tree.specs.Laws.{Rests, TreeSettles}
 use Rattle.verilog_tree.proofs.Own.{one_name, same_name}
-use Rattle.verilog_tree.proofs.Settled.{settles_once}
-use Rattle.tree_edges.specs.Items.{Has, here, further, item_name, Sets, assigns, in_first, in_second, in_then, in_else}
-use Rattle.tree_edges.specs.Laws.{TreeSettles}
-use Rattle.tree_edges.proofs.Blocks.{member_append, apart_from, sets_registers, blocks_of, below}
-use Rattle.tree_edges.proofs.Declared.{is_name, new_here, later, other, items_of, tree_declares}
+use Rattle.verilog_tree.proofs.Once.{is_name, head_ok, tail_ok, taken_step, new_here, later, other, items_of, tree_declares}
+use Rattle.verilog_tree.proofs.Settled.{member_append, apart_from, sets_registers, blocks_of, below, settles_once}
 
 -- ---- names
 
@@ -40,39 +37,33 @@ module _ (x : String) (xs ys : List String) where
   outside_right h =
       ap not (or_parts (member x xs) (member x ys) (sym (member_append x xs ys) ∙ not-true (member x (xs ++ ys)) h)).1
 
--- what isn't declared is of no kind
-no_kind : (p : Kind → Bool) (env : List Entry) (x : String) → taken env x ≡ false → of_kind p env x ≡ false
-no_kind p [] x h = refl
-no_kind p (e ∷ env) x h =
-    let (a, b) = or_parts (eqt e.name x) (taken env x) h in
-    ap (λ c. chosen c (p e.kind) (of_kind p env x)) a ∙ no_kind p env x b
-
-is_taken : (p : Kind → Bool) (env : List Entry) (x : String) → of_kind p env x ≡ true → taken env x ≡ true
-is_taken p env x h = go (taken env x) refl
+-- what is of a kind is declared
+pub kind_taken : (p : Kind → Bool) (env : List Entry) (x : String) → of_kind p env x ≡ true → taken env x ≡ true
+kind_taken p [] x h = absurd cc
+kind_taken p (e ∷ env) x h = go (eqt e.name x) h (kind_taken p env x)
   where
-    go : (b : Bool) → taken env x ≡ b → b ≡ true
-    go true e = refl
-    go false e = let z : true ≡ false = sym h ∙ no_kind p env x e in absurd cc
+    go : (b : Bool) → chosen b (p e.kind) (of_kind p env x) ≡ true → (of_kind p env x ≡ true → taken env x ≡ true) →
+        (b || taken env x) ≡ true
+    go true h k = refl
+    go false h k = k h
+
+no_kind : (p : Kind → Bool) (env : List Entry) (x : String) → taken env x ≡ false → of_kind p env x ≡ false
+no_kind p env x h = false_from_ne_true _ (λ k. let z : true ≡ false = sym (kind_taken p env x k) ∙ h in absurd cc)
+
+the_name : (n : Option String) (x : String) → is_name n x ≡ true → n ≡ Some x
+the_name None x h = absurd cc
+the_name (Some y) x h = ap Some (one_name y x h)
 
 -- a name that is declared above is another than what an item declares
 apart_here : (env : List Entry) (ds : List String) (j : Item) → item_ok env ds j ≡ true → (x : String) → taken env x ≡ true →
     is_name (item_name j) x ≡ false
-apart_here env ds j o x t = go (item_name j) refl
-  where
-    different : (y : String) → item_name j ≡ Some y → (b : Bool) → eqt y x ≡ b → b ≡ false
-    different y e true q =
-        let z : true ≡ false = sym t ∙ subst (λ z. taken env z ≡ false) (one_name y x q) (new_here env ds j o y e) in absurd cc
-    different y e false q = refl
-
-    go : (n : Option String) → item_name j ≡ n → is_name n x ≡ false
-    go None e = refl
-    go (Some y) e = different y e (eqt y x) refl
+apart_here env ds j o x t =
+    false_from_ne_true (is_name (item_name j) x)
+    (λ q. let z : true ≡ false = sym t ∙ new_here env ds j o x (the_name (item_name j) x q) in absurd cc)
 
 -- and it stays what it is
 kind_past : (p : Kind → Bool) (env : List Entry) (j : Item) (x : String) → is_name (item_name j) x ≡ false →
     of_kind p (declared env j) x ≡ of_kind p env x
-kind_past p env (note s) x e = refl
-kind_past p env gap x e = refl
 kind_past p env (size y n) x e = ap (λ c. chosen c (p Kind.a_size) (of_kind p env x)) e
 kind_past p env (constant w y n) x e = ap (λ c. chosen c (p Kind.a_constant) (of_kind p env x)) e
 kind_past p env (input w y) x e = ap (λ c. chosen c (p (input_kind w y)) (of_kind p env x)) e
@@ -80,50 +71,23 @@ kind_past p env (output w y) x e = ap (λ c. chosen c (p (kind_of w)) (of_kind p
 kind_past p env (reg w y) x e = ap (λ c. chosen c (p (kind_of w)) (of_kind p env x)) e
 kind_past p env (memory w y k) x e = ap (λ c. chosen c (p Kind.a_memory) (of_kind p env x)) e
 kind_past p env (wire w y f) x e = ap (λ c. chosen c (p (wire_kind w)) (of_kind p env x)) e
-kind_past p env (settles s) x e = refl
-kind_past p env (clocked s) x e = refl
+kind_past p env j x e = refl
 
 -- what is declared above an item is declared behind it too
 taken_past : (env : List Entry) (j : Item) (x : String) → taken env x ≡ true → taken (declared env j) x ≡ true
-taken_past env (note s) x e = e
-taken_past env gap x e = e
-taken_past env (size y n) x e = or_right (eqt y x) (taken env x) e
-taken_past env (constant w y n) x e = or_right (eqt y x) (taken env x) e
-taken_past env (input w y) x e = or_right (eqt y x) (taken env x) e
-taken_past env (output w y) x e = or_right (eqt y x) (taken env x) e
-taken_past env (reg w y) x e = or_right (eqt y x) (taken env x) e
-taken_past env (memory w y k) x e = or_right (eqt y x) (taken env x) e
-taken_past env (wire w y f) x e = or_right (eqt y x) (taken env x) e
-taken_past env (settles s) x e = e
-taken_past env (clocked s) x e = e
+taken_past env j x e = taken_step env j x ∙ or_right (is_name (item_name j) x) (taken env x) e
 
 -- what is driven above an item is driven behind it too
 driven_past : (ds : List String) (j : Item) (x : String) → member x ds ≡ true → member x (driven ds j) ≡ true
-driven_past ds (note s) x e = e
-driven_past ds gap x e = e
-driven_past ds (size y n) x e = e
-driven_past ds (constant w y n) x e = e
-driven_past ds (input w y) x e = e
-driven_past ds (output w y) x e = e
-driven_past ds (reg w y) x e = e
-driven_past ds (memory w y k) x e = e
-driven_past ds (wire w y f) x e = e
 driven_past ds (settles s) x e = member_right x (sets_first s) ds e
 driven_past ds (clocked s) x e = member_right x (targets s) ds e
+driven_past ds j x e = e
 
 -- what isn't driven behind an item isn't driven above it
 outside_past : (ds : List String) (j : Item) (x : String) → outside (driven ds j) x ≡ true → outside ds x ≡ true
-outside_past ds (note s) x e = e
-outside_past ds gap x e = e
-outside_past ds (size y n) x e = e
-outside_past ds (constant w y n) x e = e
-outside_past ds (input w y) x e = e
-outside_past ds (output w y) x e = e
-outside_past ds (reg w y) x e = e
-outside_past ds (memory w y k) x e = e
-outside_past ds (wire w y f) x e = e
 outside_past ds (settles s) x e = outside_right x (sets_first s) ds e
 outside_past ds (clocked s) x e = outside_right x (targets s) ds e
+outside_past ds j x e = e
 
 -- what an item settles, if it isn't one of these
 abbrev unsettled : Item → String → Bool
@@ -134,52 +98,26 @@ unsettled i x = true
 -- what neither an item settles nor those behind it, they don't settle together
 settling_past : (j : Item) (is : List Item) (x : String) → unsettled j x ≡ true → outside (settling is) x ≡ true →
     outside (settling (j ∷ is)) x ≡ true
-settling_past (note s) is x a b = b
-settling_past gap is x a b = b
-settling_past (size y n) is x a b = b
-settling_past (constant w y n) is x a b = b
-settling_past (input w y) is x a b = b
-settling_past (output w y) is x a b = b
-settling_past (reg w y) is x a b = b
-settling_past (memory w y k) is x a b = b
-settling_past (wire w y f) is x a b = λ i. not (not-true (eqt y x) a i || not-true (member x (settling is)) b i)
+settling_past (wire w y e) is x a b = λ i. not (not-true (eqt y x) a i || not-true (member x (settling is)) b i)
 settling_past (settles s) is x a b = outside_both x (sets_first s) (settling is) a b
-settling_past (clocked s) is x a b = b
+settling_past j is x a b = b
 
 -- what a block sets first isn't a name of another kind
 not_first : (env : List Entry) (ds : List String) (s : Stmt) → item_ok env ds (settles s) ≡ true → (x : String) →
     of_kind register env x ≡ false → outside (sets_first s) x ≡ true
-not_first env ds s o x k = go (member x (sets_first s)) refl
-  where
-    go : (b : Bool) → member x (sets_first s) ≡ b → not b ≡ true
-    go true e =
-        let (a, b) = and_parts (apart (sets_first s) ds && first_reads (sets_first s) s) (stmt_ok env (sets_first s) s) o in
-        let z : true ≡ false = sym (sets_registers env (sets_first s) s b x e) ∙ k in absurd cc
-    go false e = refl
+not_first env ds s o x k =
+    let (a, b) = and_parts (apart (sets_first s) ds && first_reads (sets_first s) s) (stmt_ok env (sets_first s) s) o in
+    ap not (false_from_ne_true (member x (sets_first s))
+    (λ e. let z : true ≡ false = sym (sets_registers env (sets_first s) s b x e) ∙ k in absurd cc))
 
 -- ---- inputs
-
-tail_ok : (env : List Entry) (ds : List String) (j : Item) (is : List Item) → items_ok env ds (j ∷ is) ≡ true →
-    items_ok (declared env j) (driven ds j) is ≡ true
-tail_ok env ds j is o = (and_parts (item_ok env ds j) (items_ok (declared env j) (driven ds j) is) o).1
-
-head_ok : (env : List Entry) (ds : List String) (j : Item) (is : List Item) → items_ok env ds (j ∷ is) ≡ true → item_ok env ds j ≡ true
-head_ok env ds j is o = (and_parts (item_ok env ds j) (items_ok (declared env j) (driven ds j) is) o).0
 
 -- a name that is no register isn't settled by an item of another name
 calm_name : (env : List Entry) (ds : List String) (j : Item) → item_ok env ds j ≡ true → (x : String) →
     is_name (item_name j) x ≡ false → of_kind register env x ≡ false → unsettled j x ≡ true
-calm_name env ds (note s) o x e k = refl
-calm_name env ds gap o x e k = refl
-calm_name env ds (size y n) o x e k = refl
-calm_name env ds (constant w y n) o x e k = refl
-calm_name env ds (input w y) o x e k = refl
-calm_name env ds (output w y) o x e k = refl
-calm_name env ds (reg w y) o x e k = refl
-calm_name env ds (memory w y n) o x e k = refl
 calm_name env ds (wire w y f) o x e k = ap not e
 calm_name env ds (settles s) o x e k = not_first env ds s o x k
-calm_name env ds (clocked s) o x e k = refl
+calm_name env ds j o x e k = refl
 
 input_below : (is : List Item) (env : List Entry) (ds : List String) → items_ok env ds is ≡ true → (x : String) →
     taken env x ≡ true → of_kind register env x ≡ false → outside (settling is) x ≡ true
@@ -259,19 +197,11 @@ module _ (x : String) (s : Stmt) (sets : Sets x s) where
       (driven_below is (declared env j) (driven ds j) (tail_ok env ds j is o) (taken_past env j x t) (driven_past ds j x m))
     where
       free : (j : Item) → item_ok env ds j ≡ true → unsettled j x ≡ true
-      free (note c) o = refl
-      free gap o = refl
-      free (size y n) o = refl
-      free (constant w y n) o = refl
-      free (input w y) o = refl
-      free (output w y) o = refl
-      free (reg w y) o = refl
-      free (memory w y n) o = refl
       free (wire w y f) o = ap not (apart_here env ds (wire w y f) o x t)
       free (settles r) o =
           let (a, b) = and_parts (apart (sets_first r) ds && first_reads (sets_first r) r) (stmt_ok env (sets_first r) r) o in
           apart_from x (sets_first r) ds (and_parts (apart (sets_first r) ds) (first_reads (sets_first r) r) a).0 m
-      free (clocked r) o = refl
+      free j o = refl
 
   -- nor does anything above
   undriven : (is : List Item) (env : List Entry) (ds : List String) → items_ok env ds is ≡ true → Has (clocked s) is →
@@ -280,12 +210,10 @@ module _ (x : String) (s : Stmt) (sets : Sets x s) where
   undriven (j ∷ is) env ds o (here is') =
       let (a, b) = and_parts (of_kind is_clock env "clk" && apart (targets s) ds) (stmt_ok env (targets s) s)
       (head_ok env ds (clocked s) is o) in
-      go (member x ds) refl (and_parts (of_kind is_clock env "clk") (apart (targets s) ds) a).1
-    where
-      go : (b : Bool) → member x ds ≡ b → apart (targets s) ds ≡ true → not b ≡ true
-      go true e a =
-          let z : true ≡ false = sym (target_in x s sets) ∙ not-true (member x (targets s)) (apart_from x (targets s) ds a e) in absurd cc
-      go false e a = refl
+      let c = (and_parts (of_kind is_clock env "clk") (apart (targets s) ds) a).1 in
+      ap not (false_from_ne_true (member x ds)
+      (λ e. let z : true ≡ false = sym (target_in x s sets) ∙ not-true (member x (targets s)) (apart_from x (targets s) ds c e) in
+      absurd cc))
   undriven (j ∷ is) env ds o (further j' is' h) =
       outside_past ds j x (undriven is (declared env j) (driven ds j) (tail_ok env ds j is o) h)
 
@@ -308,48 +236,28 @@ module _ (x : String) (s : Stmt) (sets : Sets x s) where
   clocked_kept [] env ds o h = elim h [ ]
   clocked_kept (j ∷ is) env ds o (here is') =
       driven_below is env (targets s ++ ds) (tail_ok env ds (clocked s) is o)
-      (is_taken register env x (clock_register env ds (head_ok env ds (clocked s) is o)))
+      (kind_taken register env x (clock_register env ds (head_ok env ds (clocked s) is o)))
       (member_left x (targets s) ds (target_in x s sets))
   clocked_kept (j ∷ is) env ds o (further j' is' h) =
       settling_past j is x (free j o)
       (clocked_kept is (declared env j) (driven ds j) (tail_ok env ds j is o) h)
     where
       free : (j : Item) → items_ok env ds (j ∷ is) ≡ true → unsettled j x ≡ true
-      free (note c) o = refl
-      free gap o = refl
-      free (size y n) o = refl
-      free (constant w y n) o = refl
-      free (input w y) o = refl
-      free (output w y) o = refl
-      free (reg w y) o = refl
-      free (memory w y n) o = refl
-      free (wire w y f) o = go (eqt y x) refl
-        where
-          go : (b : Bool) → eqt y x ≡ b → not b ≡ true
-          go true e =
-              let z : true ≡ false =
-              sym (register_above is (declared env (wire w y f)) ds (tail_ok env ds (wire w y f) is o) h
-              (or_left (eqt y x) (taken env x) e))
-              ∙ ap (λ c. chosen c (register (wire_kind w)) (of_kind register env x)) e ∙ no_wire w in absurd cc
-          go false e = refl
+      free (wire w y f) o =
+          ap not (false_from_ne_true (eqt y x)
+          (λ e. let z : true ≡ false =
+          sym (register_above is (declared env (wire w y f)) ds (tail_ok env ds (wire w y f) is o) h (or_left (eqt y x) (taken env x) e))
+          ∙ ap (λ c. chosen c (register (wire_kind w)) (of_kind register env x)) e ∙ no_wire w in absurd cc))
       free (settles r) o = outside_left x (sets_first r) ds (undriven is env (sets_first r ++ ds) (tail_ok env ds (settles r) is o) h)
-      free (clocked r) o = refl
+      free j o = refl
 
 -- ---- where all has settled
 
 module _ (P : Scope) (R : Store) where
   rest_of : (j : Item) (is : List Item) → Rests P (j ∷ is) R → Rests P is R
-  rest_of (note c) is r = r
-  rest_of gap is r = r
-  rest_of (size y n) is r = r
-  rest_of (constant w y n) is r = r
-  rest_of (input w y) is r = r
-  rest_of (output w y) is r = r
-  rest_of (reg w y) is r = r
-  rest_of (memory w y n) is r = r
   rest_of (wire w y f) is r = r.1
   rest_of (settles s) is r = r.1
-  rest_of (clocked s) is r = r
+  rest_of j is r = r
 
   wire_in : (is : List Item) → Rests P is R → (w : Width) (x : String) (e : Expr) → Has (wire w x e) is →
       R.vec x ≡ assigned P R (P.width x) e
