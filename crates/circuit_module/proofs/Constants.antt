@@ -10,7 +10,7 @@ use Rattle.net_build.specs.declared.node.Node.TheVariants.{Binary, Proj}
 use Rattle.net_build.specs.NetOf.{Part, after, contract, doors, bound, bound_wire, double_end, ifz_end, lam_end, fix_end, app_end, part}
 use Rattle.net_build.specs.NetOf.{net_of}
 use Rattle.net_build.specs.Sound.{In}
-use Rattle.circuit_module.specs.InRange.{SmallConstants}
+use Rattle.circuit_module.specs.Stands.{SmallConstants}
 
 record Low (ns : List Node) : Type 0 where
   each : (v w : ℕ) → In (Const v w) ns → v < 2 ^ 64

@@ -42,7 +42,3 @@ few_from (suc k) c n w h l = go (nat_le n (2 ^ c)) refl (few_from k (suc c) n w 
 -- and no more bits than are enough
 pub few_bits : (n w : ℕ) → n ≤ 2 ^ w → bits_for n ≤ w
 few_bits n w h = few_from n 0 n w h (omega arith)
-
--- below a higher power
-pub below_higher : (k w n : ℕ) → k ≤ w → n < 2 ^ k → n < 2 ^ w
-below_higher k w n l h = let up : 2 ^ k ≤ 2 ^ w = pow-le-pow_right (omega arith) l in omega arith

@@ -1,5 +1,5 @@
 -- The sizes that follow from counts: numbers, so that no function of the tool has to be believed.
-use Rattle.std.specs.Prelude.{ℕ, zero, suc, ◌*◌, ◌^◌, true, false, nat_le}
+use Rattle.std.specs.Prelude.{ℕ, zero, suc, ◌^◌, true, false, nat_le}
 
 -- the first c, of so many from c on, with n at most 2 to the power of c
 abbrev pub bits_from : ℕ → ℕ → ℕ → ℕ
@@ -9,7 +9,3 @@ bits_from (suc k) c n = elim (nat_le n (2 ^ c)) [ true ↦ c | false ↦ bits_fr
 -- how many bits tell n things apart
 abbrev pub bits_for : ℕ → ℕ
 bits_for n = bits_from n 0 n
-
--- the bits of a channel
-abbrev pub channel_bits : ℕ → ℕ
-channel_bits wires = bits_for (2 * wires)

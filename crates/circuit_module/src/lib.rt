@@ -1,11 +1,5 @@
-//! What the module of a circuit takes from a net; no code.
+//! Small parts of a circuit's module, and what its registers hold; no code and no laws.
 //!
-//! A net's rows become cases over the token's channel (`row_arms`), its counts become numbers of bits (`channel_bits`), and a multiplier
-//! is there where a node multiplies. Values in registers and small parts of blocks are here too, so that the module of
-//! joined rows and what is said of it have one home for them. The laws say that among the cases that of
-//! a channel is its row's, and that a sound net's rows fit the fields of its module.
+//! Counts become numbers of bits (`bits_for`), assignments become blocks (`set`, `block`), and a value is a number of 65 bits
+//! (`value_number`). The module of joined rows and what is said of it have these from here.
 #![tactic(auto)]
-
-mod laws;
-
-pub use laws::{law_circuit_rows, law_in_range};

@@ -17,8 +17,7 @@ use Rattle.move_rules.specs.Moves.{solo, join, answer}
 use Rattle.net_rows.specs.Rows.{Row, TEST, JOIN, ANSWER, Channel, falls, row_of, channel_of}
 use Rattle.net_rows.specs.RowMoves.{at, answer_row, by_row, by_found, by_rows}
 use Rattle.newest_core.specs.Processor.{Half, waits, came, OpenFork, Registers, meets_half, meets, does, counted, tick_on, tick, ticks}
-use Rattle.newest_core.specs.ProcessorLaws.{Waits, IsInnermost}
-use Rattle.newest_core.specs.CircuitLaws.{MeetsInnermost}
+use Rattle.newest_core.specs.ProcessorLaws.{Waits, IsInnermost, MeetsInnermost}
 use Rattle.joined_rows.specs.Open.{Term, Amount, some, both, Spot, spot, Walker, asks, says, Filling, spot_of, val_of}
 use Rattle.joined_rows.specs.Open.{work_of, boxes_of, token_in}
 use Rattle.joined_rows.specs.Compound.{Pointer, Store, Account, Low, AllRead, back_to, terms_of, signs_of}
@@ -29,7 +28,7 @@ use Rattle.joined_rows.proofs.Rows.{by_says}
 use Rattle.joined_rows.proofs.Runs.{token_channel}
 use Rattle.joined_rows.proofs.Ticks.{joined_ticks}
 use Rattle.joined_rows.proofs.Compound.{given_back}
-use Rattle.cell_core.specs.Depths.{Placed}
+use Rattle.newest_core.specs.Placed.{Placed}
 use Rattle.joined_core.specs.Rows.{sorts_of, Key, key_of, Site, nowhere, on_sigs, on_boxes, on_value, Seen, nothing, shaped, zero_is}
 use Rattle.joined_core.specs.Rows.{is_zero, a_box}
 use Rattle.joined_core.specs.Rows.{given_at, Second, Way, onwards, answers_run, answers_fork, JoinedRow, Table, test_moves, way_moves}
@@ -81,10 +80,10 @@ module _ (N : Names) (around : List OpenFork) where
   way_is net x = ap (λ c. by_found (row_of net c) (token_in F x)) (token_channel F x)
 
   tick_is : (net : NetTree) (X : Named) (R : Registers) (n : IsNamed F around X R) →
-      tick net R ≡ does (by_found (row_of net (spot_of X.live).channel) (token_in F X.live)) n.ticket (counted net (token_in F X.live) R)
+      tick net R ≡ does (by_found (row_of net (spot_of X.live).channel) (token_in F X.live)) n.ticket (counted R)
   tick_is net X R n =
       ap (λ b. cond b R (tick_on net R.live R)) n.ready ∙ ap (λ l. tick_on net l R) n.live
-      ∙ ap (λ m. does m n.ticket (counted net (token_in F X.live) R)) (way_is net X.live)
+      ∙ ap (λ m. does m n.ticket (counted R)) (way_is net X.live)
 
   -- a test by what the value is
   by_test : (k : ℕ) (r : Row) (b : Bool) (x y : Walker) → test_by r b x ≡ Some y →
@@ -114,8 +113,8 @@ module _ (N : Names) (around : List OpenFork) where
       record { named = subst (λ x. IsNamed F around (alone x) R) same n; moves = omega arith; result = refl }
   start_reached net (zero_is b) x y R h n v =
       let t = test_found (row_of net (spot_of x).channel) b x y h (v b refl) in
-      let way : tick net R ≡ does (solo t.0 (token_in F y)) n.ticket (counted net (token_in F x) R) =
-      tick_is net (alone x) R n ∙ ap (λ m. does m n.ticket (counted net (token_in F x) R)) t.1 in
+      let way : tick net R ≡ does (solo t.0 (token_in F y)) n.ticket (counted R) =
+      tick_is net (alone x) R n ∙ ap (λ m. does m n.ticket (counted R)) t.1 in
       subst (Reached 1 (alone y) R) (sym way) (record {
         named = record { ticket = n.ticket; live = refl; forks = n.forks; ready = n.ready };
         moves = omega arith;
@@ -250,7 +249,7 @@ module _ (net : NetTree) (C : JoinedCircuit) (M : Account) (r : IsRight C.store 
         } in
         let is : Z ≡ X = cc in
         second q g f.boxes s.0.boxes s.0.low v vs Z gs fs
-        (record U { live = Some (j, ask l); forks = record f { half = came a } ∷ fs; cells = f.cells })
+        (record U { live = Some (j, ask l); forks = record f { half = came a } ∷ fs })
         (ap (plain_ticks net q.moves) is ∙ leads) p (record {
           ticket = j;
           live = ap (λ p. Some (j, ask p)) (y.2 ∙ ap (at y.0 []) (sym names));
@@ -265,7 +264,7 @@ module _ (net : NetTree) (C : JoinedCircuit) (M : Account) (r : IsRight C.store 
         let Z : Named = alone (says (both o (some 1) (some 0)) (spot (falls w) [] q.boxes)) in
         let is : Z ≡ X = cc in
         second q g f.boxes s.0.boxes s.0.low v vs Z gs fs
-        (record U { live = Some (k, ans (val_op o u a) (at (falls w) [] f.boxes)); forks = fs; cells = f.cells })
+        (record U { live = Some (k, ans (val_op o u a) (at (falls w) [] f.boxes)); forks = fs })
         (ap (plain_ticks net q.moves) is ∙ leads) p (record {
           ticket = k;
           live = ap (λ b. Some (k, ans (val_op o u a) (at (falls w) [] b))) (sym names)
@@ -304,7 +303,7 @@ module _ (net : NetTree) (C : JoinedCircuit) (M : Account) (r : IsRight C.store 
     x = token_in (of_names N) Y.live
 
     abbrev U : Registers
-    U = counted net x T
+    U = counted T
 
     abbrev v : Val
     v = value_of was (val_of (of_names N)) Y.live

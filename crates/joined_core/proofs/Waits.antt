@@ -19,8 +19,8 @@ use Rattle.interleave_laws.specs.Runs.{Runs}
 use Rattle.net_rows.specs.Rows.{Row, CONST, SUCC, PRED, TEST, FORK, JOIN, ANSWER, STAR, UNSTAR, LEFT, RIGHT, GO, PUSHR, PUSHL}
 use Rattle.net_rows.specs.Rows.{SELECT, FIXOUT, FIXVAR, Channel, rises, falls, found_row, row_up, row_down, row_of}
 use Rattle.net_rows.specs.RowMoves.{at, stack_row, answer_row, question_row, by_found, by_rows}
-use Rattle.cell_core.specs.Depths.{Placed}
-use Rattle.cell_core.proofs.RunDepths.{run_placed}
+use Rattle.newest_core.specs.Placed.{Placed}
+use Rattle.newest_core.proofs.Placed.{run_placed}
 use Rattle.newest_core.specs.Processor.{Half, waits, came, OpenFork, Registers, meets_half, meets, does, counted, tick_on, tick, ticks}
 use Rattle.newest_core.specs.Processor.{reset}
 use Rattle.newest_core.specs.Processor.{newest, waiting_at, token_at}
@@ -243,7 +243,7 @@ tick_waits net R h = go R.full (on R.live)
   where
     on : (l : Option (ℕ × TokenTree)) → ForksWait net (tick_on net l R).forks
     on None = h
-    on (Some c) = does_wait net (by_rows net c.1) c.0 (counted net c.1 R) (λ n a b t e. rows_fork net c.1 n a b t e) h
+    on (Some c) = does_wait net (by_rows net c.1) c.0 (counted R) (λ n a b t e. rows_fork net c.1 n a b t e) h
 
     go : (b : Bool) → ForksWait net (tick_on net R.live R).forks → ForksWait net (cond b R (tick_on net R.live R)).forks
     go true g = h

@@ -11,7 +11,7 @@ use Rattle.net_build.specs.Nets.{NetTree}
 use Rattle.interleave_laws.specs.Start.{root_wire}
 use Rattle.interleave_laws.specs.Runs.{Runs}
 use Rattle.open_net_laws.specs.Numbers.{set_given, set_all, given, with_numbers}
-use Rattle.circuit_module.specs.InRange.{SmallConstants}
+use Rattle.circuit_module.specs.Stands.{SmallConstants}
 use Rattle.net_rows.specs.Rows.{rises}
 use Rattle.joined_rows.specs.Compound.{Pointer}
 use Rattle.joined_core.specs.Rows.{Key, key, Site, nowhere, on_sigs, on_boxes, on_value, Seen, nothing, shaped, zero_is}

@@ -8,7 +8,7 @@ use Rattle.net_build.specs.declared.node.Node.TheVariants.{Const}
 use Rattle.net_build.specs.Nets.{NetTree}
 use Rattle.net_build.specs.Sound.{In}
 use Rattle.net_build.specs.Numbers.{set_number}
-use Rattle.circuit_module.specs.InRange.{SmallConstants}
+use Rattle.circuit_module.specs.Stands.{SmallConstants}
 use Rattle.open_net_laws.specs.Numbers.{set_given, set_all, given, with_numbers}
 use Rattle.joined_core.specs.Listed.{site_of, right_table}
 use Rattle.joined_numbers.specs.At.{number_at, port_value, entries_at}

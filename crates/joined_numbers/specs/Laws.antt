@@ -10,7 +10,7 @@ use Rattle.interleave_laws.specs.Runs.{Runs}
 use Rattle.adequacy_laws.specs.Questions.{Length}
 use Rattle.adequacy_laws.specs.Adequacy.{OfEveryProgram}
 use Rattle.adequacy_laws.specs.Finished.{Beyond}
-use Rattle.circuit_module.specs.InRange.{SmallConstants}
+use Rattle.circuit_module.specs.Stands.{SmallConstants}
 use Rattle.open_net_laws.specs.Numbers.{with_numbers}
 use Rattle.joined_rows.specs.Compound.{Pointer}
 use Rattle.joined_core.specs.Rows.{Key, Site, on_sigs, on_boxes, Seen, JoinedRow}

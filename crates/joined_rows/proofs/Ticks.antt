@@ -146,13 +146,13 @@ module _ (N : Names) (around : List OpenFork) where
       Led Y (record R { moves = suc R.moves }) (tick net R)
   one net X Y R e n =
       let x : TokenTree = token_in F X.live in
-      let led = found (row_of net (spot_of X.live).channel) n.ticket X Y (counted net x R) e n.forks n.ready in
+      let led = found (row_of net (spot_of X.live).channel) n.ticket X Y (counted R) e n.forks n.ready in
       let way : by_rows net x ≡ by_found (row_of net (spot_of X.live).channel) x =
       ap (λ c. by_found (row_of net c) x) (token_channel F X.live) in
-      let cycle : tick net R ≡ does (by_rows net x) n.ticket (counted net x R) =
+      let cycle : tick net R ≡ does (by_rows net x) n.ticket (counted R) =
       ap (λ b. cond b R (tick_on net R.live R)) n.ready ∙ ap (λ l. tick_on net l R) n.live in
-      let same : does (by_found (row_of net (spot_of X.live).channel) x) n.ticket (counted net x R) ≡ tick net R =
-      ap (λ m. does m n.ticket (counted net x R)) (sym way) ∙ sym cycle in
+      let same : does (by_found (row_of net (spot_of X.live).channel) x) n.ticket (counted R) ≡ tick net R =
+      ap (λ m. does m n.ticket (counted R)) (sym way) ∙ sym cycle in
       subst (Led Y (record R { moves = suc R.moves })) same (record { named = led.named; moves = led.moves; result = led.result })
 
   -- so many

@@ -4,5 +4,3 @@ pub mod Quarters
 pub mod Products
 -- a cycle of one, wherever it is
 pub mod OneBit
--- and in the unit
-pub mod ProductBits

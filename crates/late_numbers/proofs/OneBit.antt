@@ -1,4 +1,4 @@
--- A cycle of a product, told by what has settled before it: for the unit by itself, and for a module with its registers and wires.
+-- A cycle of a product, told by what has settled before it.
 use Rattle.std.proofs.Common.{◌≡◌, ℕ, zero, suc, ◌+◌, ◌*◌, ◌/◌, ◌%◌, ◌^◌, ◌<◌, max, Bool, true, false, cond, ◌||◌, ◌&&◌, refl, ap, add-zero}
 use Rattle.std.proofs.Common.{sym, ◌∙◌, arith, nat_eq, nat_le, nat_lt}
 use Rattle.std.proofs.lemmas.Bool.{leb-true, leb-false, eq-eqb, ne_eqb}
@@ -7,9 +7,8 @@ use Rattle.verilog_tree.specs.Tree.{name, none, bit, num}
 use Rattle.verilog_tree.specs.Meaning.{Scope, Store, flag, fit, nonzero, chosen, holds, fire}
 use Rattle.circuit_module.specs.Fixed.{set}
 use Rattle.circuit_module.proofs.Values.{fit_flag}
-use Rattle.late_numbers.specs.Product.{Product, begun, odd, bit_done, bits_done}
-use Rattle.late_numbers.specs.ProductUnit.{product_begins, sum_taken, bits_shift, product_moves}
-use Rattle.late_numbers.specs.Laws.{IsProduct, Narrow}
+use Rattle.late_numbers.specs.Product.{Product, odd, bit_done, bits_done, Narrow, IsProduct}
+use Rattle.late_numbers.specs.ProductUnit.{sum_taken, bits_shift, product_goes}
 use Rattle.late_numbers.proofs.Quarters.{quarter, right, joined, carry, all_joined, joined_low, bit_low}
 
 -- ---- numbers
@@ -54,11 +53,6 @@ flag_back : (b : Bool) → nonzero (flag b) ≡ b
 flag_back true = refl
 flag_back false = refl
 
--- what is chosen of two stores
-vec_of : (o : Bool) (X Y : Store) (x : String) → (chosen o X Y).vec x ≡ chosen o (X.vec x) (Y.vec x)
-vec_of true X Y x = refl
-vec_of false X Y x = refl
-
 -- numbers stay in 64 bits
 pub narrow_on : (s : Product) → Narrow s → Narrow (bit_done s)
 narrow_on s n = record {
@@ -86,8 +80,6 @@ pub record Widths (P : Scope) : Type 0 where
   pub beyond : P.width "beyond" ≡ 1
   pub adds : P.width "adds" ≡ 1
   pub right3 : P.width "right3" ≡ 17
-  pub kept : P.width "kept" ≡ 65
-  pub result : P.width "result" ≡ 65
 
 -- the highest quarter of what the registers hold, and the number that all of them are
 abbrev pub right1_in : Store → ℕ
@@ -127,50 +119,18 @@ module _ (P : Scope) (R S : Store) where
   abbrev summed : Bool → Store
   summed o = chosen o (fire P R sum_taken turned) turned
 
-  -- by whether a product goes on, whether the sum is taken, and whether the bit is 1
-  abbrev pub went : (b a o : Bool) → Store
-  went b a o = chosen b (chosen a (fire P R bits_shift (summed o)) turned) (fire P R product_begins S)
+  -- by whether the sum is taken, and whether the bit is 1
+  abbrev went : (a o : Bool) → Store
+  went a o = chosen a (fire P R bits_shift (summed o)) turned
 
   abbrev G : Store
-  G = fire P R product_moves S
+  G = fire P R product_goes S
 
   abbrev bit_now : Bool
   bit_now = holds P R (bit "rest" (num 0))
 
-  pub went_is : G ≡ went (nonzero (R.vec "begun")) (nonzero (R.vec "adds")) bit_now
-  went_is = refl
-
-  -- what is told from outside stays
-  pub others_left : (b a o : Bool) → ((went b a o).vec "begun" ≡ S.vec "begun") × ((went b a o).vec "less" ≡ S.vec "less")
-  others_left false a o = (refl, refl)
-  others_left true false o = (refl, refl)
-  others_left true true false = (refl, refl)
-  others_left true true true = (refl, refl)
-
   module _ (w : Widths P) where
-    -- where none goes on, both operands are taken
-    pub begins_now : R.vec "begun" ≡ 0 → IsProduct G (begun (R.vec "kept" % 2 ^ 64) (R.vec "result" % 2 ^ 64)) × (G.vec "adds" ≡ 0)
-    begins_now idle = (
-      record {
-        rest = at "rest" ∙ (λ i. lower (w.rest i) (w.result i) (R.vec "result") (R.stray "result" 63)) ∙ twice (R.vec "result");
-        factor = at "factor" ∙ (λ i. lower (w.factor i) (w.kept i) (R.vec "kept") (R.stray "kept" 63)) ∙ twice (R.vec "kept");
-        total = at "total" ∙ ap (λ n. fit n 0) w.total;
-        lost = at "lost" ∙ ap (λ n. fit n 0) w.lost;
-        beyond = at "beyond" ∙ ap (λ n. fit n 0) w.beyond;
-      },
-      at "adds" ∙ ap (λ n. fit n 0) w.adds,
-    )
-      where
-        at : (x : String) → G.vec x ≡ (fire P R product_begins S).vec x
-        at x = ap (λ n. (went (nonzero n) (nonzero (R.vec "adds")) bit_now).vec x) idle
-
-        lower : (k v n m : ℕ) → ℕ
-        lower k v n m = fit k (chosen (nat_lt 63 v) (fit 64 (n / 2 ^ 0)) m)
-
-        twice : (n : ℕ) → fit 64 (fit 64 (n / 2 ^ 0)) ≡ n % 2 ^ 64
-        twice n = omega arith
-
-    module _ (s : Product) (h : IsProduct R s) (g : IsProduct S s) (goes : R.vec "begun" ≡ 1) where
+    module _ (s : Product) (h : IsProduct R s) (g : IsProduct S s) where
       -- the first cycle of a bit
       pub turns_now : R.vec "adds" ≡ 0 → IsProduct G s × (G.vec "adds" ≡ 1)
       turns_now meets = (
@@ -185,7 +145,7 @@ module _ (P : Scope) (R S : Store) where
       )
         where
           at : (x : String) → G.vec x ≡ turned.vec x
-          at x = λ i. (went (nonzero (goes i)) (nonzero (meets i)) bit_now).vec x
+          at x = λ i. (went (nonzero (meets i)) bit_now).vec x
 
       -- the second one
       module _ (narrow : Narrow s) (adds : R.vec "adds" ≡ 1) (q : Quartered R s.total s.factor) (m : SumMet R) where
@@ -227,7 +187,7 @@ module _ (P : Scope) (R S : Store) where
             ∙ odd_is (R.vec "rest") ∙ ap (λ n. nat_eq (n % 2) 1) h.rest
 
         at : (x : String) → G.vec x ≡ (fire P R bits_shift (summed (odd s))).vec x
-        at x = λ i. (went (nonzero (goes i)) (nonzero (adds i)) (odd_now i)).vec x
+        at x = λ i. (went (nonzero (adds i)) (odd_now i)).vec x
 
         turned_adds : turned.vec "adds" ≡ 0
         turned_adds = λ i. fit (w.adds i) (flag (nat_eq (adds i) 0))

@@ -10,7 +10,7 @@ use Rattle.pcf_values.specs.Values.{within, val_op}
 use Rattle.verilog_tree.specs.Meaning.{flag, nonzero, chosen}
 use Rattle.circuit_module.specs.Stands.{value_number, Small}
 use Rattle.circuit_module.proofs.Values.{high_number}
-use Rattle.late_numbers.specs.Product.{Product, begun, odd, bit_done, bits_done, told, ProductIsTold, ProductEnds}
+use Rattle.late_numbers.specs.Product.{Product, begun, odd, bit_done, bits_done}
 use Rattle.late_numbers.proofs.Quarters.{low}
 
 -- what holds at each bit of the product p, where the left operand would be f if no bit of it were lost
@@ -115,6 +115,10 @@ module _ (p f : ℕ) (s : Product) (h : Holds p f s) where
     beyond = beyond_on s.beyond (odd s) s.lost (nat_le (2 ^ 64) (t + F)) refl refl refl refl;
   }
 
+-- what is told at the end
+abbrev told : Product → Val
+told s = cond s.beyond Overflow (Number s.total)
+
 -- after all bits
 bits_tell : (k p f : ℕ) (s : Product) → Holds p f s → (bits_done k s).rest ≡ 0 → told (bits_done k s) ≡ within p
 bits_tell (suc k) p f s h e = bits_tell k p (f + f) (bit_done s) (bit_holds p f s h) e
@@ -135,7 +139,8 @@ bits_tell zero p f s h e = go s.beyond refl
         under true g = ap Number is
         under false g = let x = ltb-false p (2 ^ 64) g in let y = h.small in absurd (omega (arith, x, y, is))
 
-pub product_is_told : ProductIsTold
+-- where no bit is left, that is the product
+product_is_told : (a b : ℕ) → a < 2 ^ 64 → (k : ℕ) → (bits_done k (begun a b)).rest ≡ 0 → told (bits_done k (begun a b)) ≡ within (a * b)
 product_is_told a b l k e =
     bits_tell k (a * b) a (begun a b) (record {
       factor = omega arith;
@@ -145,13 +150,6 @@ product_is_told a b l k e =
       within = λ z. omega arith;
       beyond = λ z. absurd cc;
     }) e
-
-rest_ends : (k : ℕ) (s : Product) → s.rest < 2 ^ k → (bits_done k s).rest ≡ 0
-rest_ends zero s l = omega arith
-rest_ends (suc k) s l = let p = pow-suc 2 k in rest_ends k (bit_done s) (omega (arith, l, p))
-
-pub product_ends : ProductEnds
-product_ends a b k l = rest_ends k (begun a b) l
 
 -- ---- the value of a product
 
@@ -170,7 +168,7 @@ told_number s = go s.beyond
     go true = refl
     go false = omega arith
 
--- where no bit is left, that is the product of both values
+-- and that of both values
 pub value_is : (u v : Val) → Small u → Small v → (k : ℕ) →
     let s : Product = bits_done k (begun (value_number u % 2 ^ 64) (value_number v % 2 ^ 64)) in
     s.rest ≡ 0 → value_told (value_number u) (value_number v) (flag s.beyond) s.total ≡ value_number (val_op Times u v)

@@ -6,11 +6,9 @@ use Rattle.pcf_values.specs.declared.val.Val.{Val}
 use Rattle.pcf_values.specs.declared.val.Val.TheVariants.{Number, Overflow}
 use Rattle.pcf_values.specs.declared.operator.Operator.TheVariants.{Plus, Minus}
 use Rattle.pcf_values.specs.Values.{within, val_op}
-use Rattle.verilog_tree.specs.Meaning.{Store, flag, fit, nonzero, chosen, settled}
+use Rattle.verilog_tree.specs.Meaning.{flag, fit, nonzero, chosen}
 use Rattle.circuit_module.specs.Stands.{value_number, Small}
 use Rattle.circuit_module.proofs.Values.{high_number}
-use Rattle.late_numbers.specs.Unit.{quarter_wires}
-use Rattle.late_numbers.specs.Laws.{P, met_in, Asks, Quarters, LateSum, LateDifference, OneMore, OneLess}
 
 -- the second operand as it is added, where k says that it is taken away
 abbrev pub added : ℕ → ℕ → ℕ
@@ -22,9 +20,6 @@ low n l = omega arith
 
 pub whole_first : (n : ℕ) → n < 2 ^ 64 → fit 65 (0 * 2 ^ 64 + n) ≡ n
 whole_first n l = omega arith
-
-pub whole_second : (n : ℕ) → n < 2 ^ 64 → added 0 (fit 65 (0 * 2 ^ 64 + n)) ≡ n
-whole_second n l = omega arith
 
 pub bit_low : (n : ℕ) → n % 2 < 2
 bit_low n = omega arith
@@ -48,20 +43,6 @@ late_of a b k p0 p1 n1 p2 n2 p3 n3 =
     nonzero (flag (nonzero (flag (nat_eq k 0)) && nonzero (r3 / 2 ^ 16 % 2)))))))))
     (2 ^ 64) (chosen (nonzero (fit 1 (flag (nonzero k && nonzero (flag (nat_eq (r3 / 2 ^ 16 % 2) 0)))))) 0
     (0 + (fit 16 (r3 / 2 ^ 0) * 2 ^ 48 + (fit 16 (r2 / 2 ^ 0) * 2 ^ 32 + (fit 16 (r1 / 2 ^ 0) * 2 ^ 16 + fit 16 (p0 / 2 ^ 0)))))))
-
-late_is : (F : Store) → (settled P quarter_wires F).vec "late" ≡
-    late_of (F.vec "first") (F.vec "second") (F.vec "less") (F.vec "part0") (F.vec "part1") (F.vec "next1") (F.vec "part2") (F.vec "next2")
-    (F.vec "part3") (F.vec "next3")
-late_is F = refl
-
-part0_is : (S : Store) → (met_in S).vec "part0" ≡ quarter 0 (S.vec "first") (added (S.vec "less") (S.vec "second")) (S.vec "less")
-part0_is S = refl
-
-part1_is : (S : Store) → (met_in S).vec "part1" ≡ quarter 16 (S.vec "first") (added (S.vec "less") (S.vec "second")) 0
-part1_is S = refl
-
-next3_is : (S : Store) → (met_in S).vec "next3" ≡ quarter 48 (S.vec "first") (added (S.vec "less") (S.vec "second")) 1
-next3_is S = refl
 
 -- a number of 16 bits from bit n on
 abbrev of16 : ℕ → ℕ → ℕ
@@ -162,15 +143,6 @@ whole k a b =
     late_of a b k (quarter 0 a d k) (quarter 16 a d 0) (quarter 16 a d 1) (quarter 32 a d 0) (quarter 32 a d 1) (quarter 48 a d 0)
     (quarter 48 a d 1)
 
-along : (x y : Val) (l : Bool) (S F : Store) → Asks S x y l → Quarters S F → Asks F x y l →
-    (settled P quarter_wires F).vec "late" ≡ whole (flag l) (value_number x) (value_number y)
-along x y l S F s q f =
-    late_is F
-    ∙ (λ i. late_of (f.first i) (f.second i) (f.less i) (q.part0 i) (q.part1 i) (q.next1 i) (q.part2 i) (q.next2 i) (q.part3 i) (q.next3 i))
-    ∙ (λ i. let a : ℕ = s.first i in let d : ℕ = added (s.less i) (s.second i) in
-    late_of (value_number x) (value_number y) (flag l) (quarter 0 a d (s.less i)) (quarter 16 a d 0) (quarter 16 a d 1) (quarter 32 a d 0)
-    (quarter 32 a d 1) (quarter 48 a d 0) (quarter 48 a d 1))
-
 -- what is told of the carry c out of the highest quarter, and of the four quarters j
 abbrev told_of : (high_a high_b k c j : ℕ) → ℕ
 told_of ha hb k c j =
@@ -241,18 +213,3 @@ whole_less (Number a) (Number b) s t =
     ∙ less_told (carry a d 1 s l z) (joined a d 1 s l z) a b (bit_low (r3 a d 1 s l z / 2 ^ 16))
     (joined_low (r3 a d 1 s l z / 2 ^ 0) (r2 a d 1 s l z / 2 ^ 0) (r1 a d 1 s l z / 2 ^ 0) (q0 a d 1 s l z / 2 ^ 0)) s t
     (all_joined a d 1 s l z ∙ ap (λ n. a + n + 1) e)
-
-pub late_sum : LateSum
-late_sum x y sx sy S F s q f = along x y false S F s q f ∙ whole_sum x y sx sy
-
-pub late_difference : LateDifference
-late_difference x y sx sy S F s q f = along x y true S F s q f ∙ whole_less x y sx sy
-
-pub one_more : OneMore
-one_more (Number n) = refl
-one_more Overflow = refl
-
-pub one_less : OneLess
-one_less (Number zero) = refl
-one_less (Number (suc n)) = let e : suc n - 1 ≡ n = omega arith in ap Number e
-one_less Overflow = refl

@@ -4,5 +4,3 @@ pub mod Unit
 pub mod Product
 -- The same in the unit, two cycles for each bit.
 pub mod ProductUnit
--- The statements of the laws.
-pub mod Laws

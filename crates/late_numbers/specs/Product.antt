@@ -3,9 +3,7 @@
 -- added up in 64 bits too, and it is known whether that was more than they have.
 use Rattle.std.specs.Prelude.{ℕ, zero, suc, ◌+◌, ◌*◌, ◌/◌, ◌%◌, ◌^◌, ◌<◌, ◌≡◌, Bool, false, ◌&&◌, ◌||◌, nat_eq, nat_le}
 use Rattle.std.specs.Prelude.{if◌then◌else◌}
-use Rattle.pcf_values.specs.declared.val.Val.{Val}
-use Rattle.pcf_values.specs.declared.val.Val.TheVariants.{Number, Overflow}
-use Rattle.pcf_values.specs.Values.{within}
+use Rattle.verilog_tree.specs.Meaning.{Store, flag}
 
 -- the bits that are left; the left operand, doubled; the sum so far; whether the left operand has lost a bit; and whether the sum has
 pub record Product : Type 0 where
@@ -42,14 +40,16 @@ abbrev pub bits_done : ℕ → Product → Product
 bits_done zero s = s
 bits_done (suc k) s = bits_done k (bit_done s)
 
--- what is told at the end
-abbrev pub told : Product → Val
-told s = if s.beyond then Overflow else Number s.total
+-- its numbers have 64 bits each
+pub record Narrow (s : Product) : Type 0 where
+  pub rest : s.rest < 2 ^ 64
+  pub factor : s.factor < 2 ^ 64
+  pub total : s.total < 2 ^ 64
 
--- where no bit is left, that is the product
-abbrev pub ProductIsTold : Type 0
-ProductIsTold = (a b : ℕ) → a < 2 ^ 64 → (k : ℕ) → (bits_done k (begun a b)).rest ≡ 0 → told (bits_done k (begun a b)) ≡ within (a * b)
-
--- as it is after as many bits as the right operand has
-abbrev pub ProductEnds : Type 0
-ProductEnds = (a b k : ℕ) → b < 2 ^ k → (bits_done k (begun a b)).rest ≡ 0
+-- the registers stand for a product
+pub record IsProduct (S : Store) (s : Product) : Type 0 where
+  pub rest : S.vec "rest" ≡ s.rest
+  pub factor : S.vec "factor" ≡ s.factor
+  pub total : S.vec "total" ≡ s.total
+  pub lost : S.vec "lost" ≡ flag s.lost
+  pub beyond : S.vec "beyond" ≡ flag s.beyond

@@ -1,12 +1,11 @@
--- A sum, a difference, one more and one less in two cycles: in the first one the quarters of both operands meet, all but the lowest without
--- and with a carry from below; in the second one the quarters are put together.
+-- A sum or a difference in two cycles: in the first one the quarters of both operands meet, all but the lowest without and with a carry
+-- from below; in the second one the quarters are put together.
 -- The operands are `first` and `second`, of 65 bits each, as values are, and `less` says that a difference is wanted. For a difference the
 -- second operand is taken with each bit inverted and one more, so that a carry out of the highest quarter says that nothing was borrowed.
-use Rattle.std.specs.Prelude.{ℕ, ◌^◌, List, [], ◌∷◌, ◌++◌}
+use Rattle.std.specs.Prelude.{ℕ, List, [], ◌∷◌}
 use Prim.Native.String.{String}
-use Rattle.verilog_tree.specs.Tree.{count, Expr, num, sized, const, name, bit, part, cat, inverse, two, plus, logic, both, one_of, none}
-use Rattle.verilog_tree.specs.Tree.{pick, Stmt, one, upto, Item, constant, reg, wire}
-use Rattle.circuit_module.specs.Fixed.{set, block, high}
+use Rattle.verilog_tree.specs.Tree.{count, Expr, sized, name, part, cat, inverse, two, plus, pick, Stmt, upto, Item, reg, wire}
+use Rattle.circuit_module.specs.Fixed.{set, block}
 
 -- what the registers of the quarters hold: the lowest one, and each other without and with a carry from below
 abbrev pub quarter_registers : List Item
@@ -38,22 +37,3 @@ abbrev pub quarters_meet : Stmt
 quarters_meet =
     block (takes "part0" "meet0" ∷ takes "part1" "meet1" ∷ takes "next1" "more1" ∷ takes "part2" "meet2" ∷ takes "next2" "more2" ∷
     takes "part3" "meet3" ∷ takes "next3" "more3" ∷ [])
-
--- what comes of them: the quarters that are right; an overflow, or a difference below 0; and the value
-abbrev pub quarter_wires : List Item
-quarter_wires =
-    wire (upto (count 16)) "right1" (pick (bit "part0" (num 16)) (name "next1") (name "part1")) ∷
-    wire (upto (count 16)) "right2" (pick (bit "right1" (num 16)) (name "next2") (name "part2")) ∷
-    wire (upto (count 16)) "right3" (pick (bit "right2" (num 16)) (name "next3") (name "part3")) ∷
-    wire one "past" (logic one_of (high "first") (logic one_of (high "second")
-    (logic both (none (name "less")) (bit "right3" (num 16))))) ∷
-    wire one "under" (logic both (name "less") (none (bit "right3" (num 16)))) ∷
-    wire (upto (count 64)) "late" (pick (name "past") (const "OVERFLOW") (pick (name "under") (sized 65 0)
-    (cat (sized 1 0) (cat (part "right3" (count 15) (count 0)) (cat (part "right2" (count 15) (count 0))
-    (cat (part "right1" (count 15) (count 0)) (part "part0" (count 15) (count 0)))))))) ∷ []
-
--- all that is declared, by itself
-abbrev pub unit_items : List Item
-unit_items =
-    constant (upto (count 64)) "OVERFLOW" (2 ^ 64) ∷ reg (upto (count 64)) "first" ∷ reg (upto (count 64)) "second" ∷ reg one "less" ∷
-    (quarter_registers ++ (meet_wires ++ quarter_wires))

@@ -8,10 +8,9 @@ use Rattle.verilog_tree.specs.Meaning.{Store, Scope, flag, fit, nonzero, chosen,
 use Rattle.verilog_tree.specs.Laws.{Rests}
 use Rattle.verilog_tree.proofs.Leaves.{spares, fire_spares}
 use Rattle.circuit_module.specs.Fixed.{set, block}
-use Rattle.late_numbers.specs.Product.{Product, begun, bit_done}
+use Rattle.late_numbers.specs.Product.{Product, begun, bit_done, Narrow, IsProduct}
 use Rattle.late_numbers.specs.Unit.{quarters_meet}
-use Rattle.late_numbers.specs.ProductUnit.{product_goes, product_begins, product_moves}
-use Rattle.late_numbers.specs.Laws.{IsProduct, Narrow}
+use Rattle.late_numbers.specs.ProductUnit.{product_goes}
 use Rattle.late_numbers.proofs.Quarters.{whole_first}
 use Rattle.late_numbers.proofs.OneBit.{Quartered, turns_now, adds_now}
 use Rattle.late_numbers.proofs.OneBit as bits
@@ -146,19 +145,16 @@ module _ (P : Scope) (R : Store) where
     beyond = refl;
     adds = refl;
     right3 = refl;
-    kept = refl;
-    result = refl;
   }
 
   -- one goes on
   module _ (goes : R.vec "begun" ≡ 1) where
-    -- its own part of the block, as late numbers have it
+    -- its own part of the block
     abbrev H : Store
-    H = fire (Q true) R product_moves E
+    H = fire (Q true) R product_goes E
 
     on : (x : String) → spares x (block (begun_set ∷ meets_set ∷ [])) ≡ true → (F true).vec x ≡ H.vec x
     on x h = went x h ∙ ap (λ n. (G (nonzero n)).vec x) goes
-        ∙ sym (ap (λ n. (chosen (nonzero n) (fire (Q true) R product_goes E) (fire (Q true) R product_begins E)).vec x) goes)
 
     pub spoilt_stays : (F true).vec "spoilt" ≡ R.vec "spoilt"
     spoilt_stays =
@@ -180,13 +176,13 @@ module _ (P : Scope) (R : Store) where
       -- in the first edge of a bit it stays
       pub turned : R.vec "adds" ≡ 0 → IsProduct (F true) s × ((F true).vec "adds" ≡ 1)
       turned e =
-          let a = turns_now (Q true) R E widths s h still goes e in (on_product s a.0, on "adds" refl ∙ a.1)
+          let a = turns_now (Q true) R E widths s h still e in (on_product s a.0, on "adds" refl ∙ a.1)
 
       -- in the second one the bit is done
       pub added_up : Narrow s → Told R → Quarters s.total s.factor 0 R → R.vec "adds" ≡ 1 →
           IsProduct (F true) (bit_done s) × ((F true).vec "adds" ≡ 0)
       added_up n t q e =
-          let a = adds_now (Q true) R E widths s h still goes n e quartered (sum_met R t) in
+          let a = adds_now (Q true) R E widths s h still n e quartered (sum_met R t) in
           (on_product (bit_done s) a.0, on "adds" refl ∙ a.1)
         where
           quartered : Quartered R s.total s.factor

@@ -12,8 +12,7 @@ use Rattle.verilog_tree.specs.Laws.{Rests}
 use Rattle.verilog_tree.specs.WellFormed.{member}
 use Rattle.circuit_module.specs.Stands.{value_number, Small}
 use Rattle.circuit_module.proofs.Values.{fit_flag}
-use Rattle.late_numbers.specs.Product.{Product, begun, bit_done, bits_done}
-use Rattle.late_numbers.specs.Laws.{IsProduct, Narrow}
+use Rattle.late_numbers.specs.Product.{Product, begun, bit_done, bits_done, Narrow, IsProduct}
 use Rattle.late_numbers.proofs.OneBit.{narrow_all}
 use Rattle.joined_module.specs.Unit.{unit_wires, operand_wires_of}
 use Rattle.late_unit.specs.Works.{UnitRests, UnitSame, After, unit_items, unit_names, added, quarter, Quarters, SumWaits, ProductWaits}

@@ -1,4 +1,4 @@
--- What the unit of numbers does at an edge, whatever else goes on: the statements of `law_late_unit` and `law_late_unit_starts`.
+-- What the unit of numbers does at an edge, whatever else goes on: the statements of `law_late_unit` and `law_late_told`.
 use Rattle.std.specs.Prelude.{◌≡◌, ℕ, suc, Bool, true}
 use Rattle.pcf_values.specs.declared.val.Val.{Val}
 use Rattle.pcf_values.specs.declared.operator.Operator.{Operator}

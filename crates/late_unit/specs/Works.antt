@@ -13,8 +13,7 @@ use Rattle.verilog_tree.specs.WellFormed.{member}
 use Rattle.verilog_tree.specs.Laws.{Rests}
 use Rattle.circuit_module.specs.Sizes.{bits_for}
 use Rattle.circuit_module.specs.Stands.{value_number, Small}
-use Rattle.late_numbers.specs.Product.{Product, begun, bits_done}
-use Rattle.late_numbers.specs.Laws.{IsProduct}
+use Rattle.late_numbers.specs.Product.{Product, begun, bits_done, IsProduct}
 use Rattle.late_numbers.specs.Unit.{quarter_registers, meet_wires}
 use Rattle.late_numbers.specs.ProductUnit.{product_registers, met_wires}
 use Rattle.joined_module.specs.Unit.{unit_stmt, unit_flags, unit_wires, right_wires, late_wires, busy_wires, operand_wires_of}

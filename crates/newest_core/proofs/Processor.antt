@@ -203,10 +203,10 @@ module _ (net : NetTree) (runs : Runs net) (log : List ℕ) (S : State) (lead : 
         which (came u) f e en et = left_came u s T (ap (λ e. join_on e S i n o s v w t) (sym e) ∙ st)
 
     -- the left answer is kept, and the right question goes on
-    keep_fits : (j : ℕ) (p : Place) (c : ℕ) → Before net S R (record g { half = waits j p } ∷ fs) i (ans v q) → g.node ≡ n → g.boxes ≡ t →
-        Fits net (record R { live = Some (j, ask p); forks = record g { half = came v } ∷ fs; cells = c })
+    keep_fits : (j : ℕ) (p : Place) → Before net S R (record g { half = waits j p } ∷ fs) i (ans v q) → g.node ≡ n → g.boxes ≡ t →
+        Fits net (record R { live = Some (j, ask p); forks = record g { half = came v } ∷ fs })
         (record S { tokens = set_token S.tokens i None; entries = set_entry S.entries n t (Some (has_left v)) })
-    keep_fits j p c f en et =
+    keep_fits j p f en et =
         let (inn, q0, op0, a0, b0, l0, r0, m0) = f.nests in record {
           shows = record {
             tokens = λ k. ended (record g { half = waits j p } ∷ fs) i (Some (ans v q)) (S.tokens k) k f.alone (f.tokens k);
@@ -226,11 +226,11 @@ module _ (net : NetTree) (runs : Runs net) (log : List ℕ) (S : State) (lead : 
         }
 
     -- what both answers come to goes on, and the fork is closed
-    close_fits : (u : Val) (c : ℕ) → Before net S R (record g { half = came u } ∷ fs) i (ans v q) → g.node ≡ n → g.boxes ≡ t →
+    close_fits : (u : Val) → Before net S R (record g { half = came u } ∷ fs) i (ans v q) → g.node ≡ n → g.boxes ≡ t →
         (op : Operator) (a b : Place) → look net (up w [] t) ≡ two n op t a b → (y : Val) →
-        Fits net (record R { live = Some (i, ans y (down w [] t)); forks = fs; cells = c })
+        Fits net (record R { live = Some (i, ans y (down w [] t)); forks = fs })
         (record S { tokens = set_token S.tokens i (Some (ans y (down w [] t))); entries = set_entry S.entries n t None })
-    close_fits u c f en et op a b l y =
+    close_fits u f en et op a b l y =
         let (inn, q0, op0, a0, b0, l0, r0, m0) = f.nests in
         let l0' : look net q0 ≡ two n op0 t a0 b0 = l0 ∙ ap (λ n. two n op0 g.boxes a0 b0) en ∙ ap (λ t. two n op0 t a0 b0) et in
         let same : q0 ≡ up w [] t = key_place net runs.sound q0 (up w [] t) n op0 op t a0 b0 a b l0' l in
@@ -258,14 +258,14 @@ module _ (net : NetTree) (runs : Runs net) (log : List ℕ) (S : State) (lead : 
         Fits net (meets_half h (record g { half = h }) fs i o v w t R) T
     join_half (waits j p) f Left mv T st z =
         subst (Fits net _) (same_Some _ T (ap (λ e. join_on e S i n o Left v w t) (sym z.entry) ∙ st))
-        (keep_fits j p g.cells f z.node z.boxes)
+        (keep_fits j p f z.node z.boxes)
     join_half (waits j p) f Right mv T st z = elim z.waits_for [ ]
     join_half (came u) f Left mv T st z = elim z.waits_for [ ]
     join_half (came u) f Right mv T st z =
         let (inn, _, _, _, _, _, _, _) = f.nests in
         let (_, (op, a, b, l)) = join_inner net runs.sound n o Right v w t q (Some (g.node, g.boxes)) inn mv in
         subst (Fits net _) (same_Some _ T (ap (λ e. join_on e S i n o Right v w t) (sym z.entry) ∙ st))
-        (close_fits u g.cells f z.node z.boxes op a b l (val_op o u v))
+        (close_fits u f z.node z.boxes op a b l (val_op o u v))
 
   -- an answer that joins
   join_fits : (fs : List OpenFork) (q : Place) (n : ℕ) (o : Operator) (s : Side) (v : Val) (w : ℕ) (t : Boxes) →
@@ -384,7 +384,7 @@ module _ (net : NetTree) (runs : Runs net) where
       Fits net (tick net R) T
   ticked log S T R i x h fits live e s g =
       let b = before_of S R i x fits live in
-      let counted_too : Before net S (counted net x R) R.forks i x = record {
+      let counted_too : Before net S (counted R) R.forks i x = record {
         tokens = b.tokens;
         entries = b.entries;
         next = b.next;
@@ -396,7 +396,7 @@ module _ (net : NetTree) (runs : Runs net) where
         ready = b.ready;
       } in
       let stays = runs.moves log S h i x e in
-      let made = act_fits net runs log S h (counted net x R) i x (by_rows net x) (law net runs.sound x stays) counted_too T
+      let made = act_fits net runs log S h (counted R) i x (by_rows net x) (law net runs.sound x stays) counted_too T
       (ap (λ m. act m S i) (sym (law net runs.sound x stays)) ∙ ap (λ o. step_on net o S i) (sym e) ∙ s)
       (λ v a. (answered_idle net runs.sound (log ++ i ∷ []) T g v a).1) in
       subst (λ R. Fits net R T)
@@ -406,7 +406,7 @@ module _ (net : NetTree) (runs : Runs net) where
   counts : (R : Registers) (i : ℕ) (x : TokenTree) → R.live ≡ Some (i, x) → R.full ≡ false → (tick net R).moves ≡ suc R.moves
   counts R i x live ready =
       ap (λ b. (cond b R (tick_on net R.live R)).moves) ready ∙ ap (λ c. (tick_on net c R).moves) live ∙
-      move_counts_none (by_rows net x) i (counted net x R)
+      move_counts_none (by_rows net x) i (counted R)
 
   -- k cycles: the tickets that moved lead to a state that the registers fit, and are as many, or the state has answered
   pub record Goes (S : State) (R : Registers) (k : ℕ) : Type 0 where

@@ -137,7 +137,7 @@ module _ (net : NetTree) (runs : Runs net) where
           let g = run_append net log (start (start_of net)) S T i h s in
           let on = ih (log ++ i ∷ []) T (tick net R) g (ticked net runs log S T R i x h fits live e s g) in
           let row = law net runs.sound x (runs.moves log S h i x e) in
-          let counted_too : Before net S (counted net x R) R.forks i x = record {
+          let counted_too : Before net S (counted R) R.forks i x = record {
             tokens = b.tokens;
             entries = b.entries;
             next = b.next;
@@ -148,10 +148,10 @@ module _ (net : NetTree) (runs : Runs net) where
             once = b.once;
             ready = b.ready;
           } in
-          let made : held (does (by_rows net x) i (counted net x R)) ≡ behind S T i (waiting R.forks) =
-          moved net runs log S h (counted net x R) i x (by_rows net x) row counted_too T
+          let made : held (does (by_rows net x) i (counted R)) ≡ behind S T i (waiting R.forks) =
+          moved net runs log S h (counted R) i x (by_rows net x) row counted_too T
           (ap (λ m. act m S i) (sym row) ∙ ap (λ o. step_on net o S i) (sym e) ∙ s) in
-          let ticks_to : tick net R ≡ does (by_rows net x) i (counted net x R) =
+          let ticks_to : tick net R ≡ does (by_rows net x) i (counted R) =
           ap (λ b. cond b R (tick_on net R.live R)) fits.ready ∙ ap (λ c. tick_on net c R) live in
           let same : held (tick net R) ≡ behind S T i (waiting R.forks) = ap held ticks_to ∙ made in
           ap (λ c. on_live c (fired net k (tick net R))) live ∙ ap (λ l. i ∷ l) (on ∙ ap (λ l. stack_from net T l k) same) ∙

@@ -3,33 +3,29 @@
 -- the right question is walked. Its answer finds the left one, closes the fork and goes on with what both come to. An answer looks at the
 -- innermost fork alone, and asks neither which fork that is nor which operand it answers: that these are always right is a law. So
 -- questions wait in no queue, no fork has a number, and nothing is searched. Tickets stand here beside the tokens only so that a law can
--- compare the processor with the machine. `cells` counts the cells in use, for the circuit over cells: a fork remembers how many there were
--- when it was opened, and each of its two answers gives back all that were made since.
-use Rattle.std.specs.Prelude.{ℕ, zero, suc, ◌+◌, Bool, false, true, List, [], ◌∷◌, Option, Some, None, nat_eq, if◌then◌else◌}
+-- compare the processor with the machine.
+use Rattle.std.specs.Prelude.{ℕ, zero, suc, Bool, false, true, List, [], ◌∷◌, Option, Some, None, nat_eq, if◌then◌else◌}
 use Rattle.pcf_values.specs.declared.val.Val.{Val}
 use Rattle.pcf_values.specs.Values.{val_op}
 use Rattle.pcf_values.specs.declared.operator.Operator.{Operator}
 use Rattle.token_stacks.specs.Signatures.{Boxes}
 use Rattle.net_build.specs.Nets.{NetTree}
 use Rattle.fork_join.specs.Entries.{Entry, pending, has_left, same_key}
-use Rattle.move_rules.specs.Places.{Place, down, TokenTree, ask, ans, place_of}
+use Rattle.move_rules.specs.Places.{Place, down, TokenTree, ask, ans}
 use Rattle.move_rules.specs.Moves.{Move, solo, fork, join, answer, stay}
 use Rattle.interleave_laws.specs.Start.{start_of}
-use Rattle.net_rows.specs.Rows.{row_of, channel_of}
 use Rattle.net_rows.specs.RowMoves.{by_rows}
-use Rattle.cell_core.specs.Sizes.{makes_on}
 
 -- what an open fork has: its right question, which waits with its ticket, or its left question's answer
 pub data Half : Type 0 where
   waits : (ticket : ℕ) → Place → Half
   came : Val → Half
 
--- an open fork: its node and box stack, what it has, and how many cells were in use when it was opened
+-- an open fork: its node and box stack, and what it has
 pub record OpenFork : Type 0 where
   pub node : ℕ
   pub boxes : Boxes
   pub half : Half
-  pub cells : ℕ
 
 pub record Registers : Type 0 where
   -- the current token with its ticket; none after the answer
@@ -42,15 +38,13 @@ pub record Registers : Type 0 where
   -- something came that a net that runs never does
   pub full : Bool
   pub moves : ℕ
-  -- the cells in use
-  pub cells : ℕ
 
 -- an answer at the innermost fork: the right question goes on, or what both come to does
 abbrev pub meets_half : Half → OpenFork → List OpenFork → ℕ → Operator → Val → ℕ → Boxes → Registers → Registers
 meets_half (waits j p) f fs i o v w t R =
-    record R { live = Some (j, ask p); forks = record f { half = came v } ∷ fs; cells = f.cells }
+    record R { live = Some (j, ask p); forks = record f { half = came v } ∷ fs }
 meets_half (came u) f fs i o v w t R =
-    record R { live = Some (i, ans (val_op o u v) (down w [] t)); forks = fs; cells = f.cells }
+    record R { live = Some (i, ans (val_op o u v) (down w [] t)); forks = fs }
 
 -- an answer at the innermost fork, if there is one
 abbrev pub meets : List OpenFork → ℕ → Operator → Val → ℕ → Boxes → Registers → Registers
@@ -62,25 +56,21 @@ abbrev pub does : Move → ℕ → Registers → Registers
 does (solo n x) i R = record R { live = Some (i, x) }
 does (fork n l r t) i R = record R {
   live = Some (i, ask l);
-  forks = record { node = n; boxes = t; half = waits R.next r; cells = R.cells } ∷ R.forks;
+  forks = record { node = n; boxes = t; half = waits R.next r } ∷ R.forks;
   next = suc R.next;
 }
 does (join n o s v w t) i R = meets R.forks i o v w t R
 does (answer v) i R = record R { live = None; result = Some v }
 does stay i R = record R { full = true }
 
--- how many cells a token makes
-abbrev pub made_by : NetTree → TokenTree → ℕ
-made_by net x = makes_on (row_of net (channel_of (place_of x)))
-
--- the registers with one move more, and with the cells that the token makes
-abbrev pub counted : NetTree → TokenTree → Registers → Registers
-counted net x R = record R { moves = suc R.moves; cells = R.cells + made_by net x }
+-- the registers with one move more
+abbrev pub counted : Registers → Registers
+counted R = record R { moves = suc R.moves }
 
 -- one cycle, with the current token if there is one
 abbrev pub tick_on : NetTree → Option (ℕ × TokenTree) → Registers → Registers
 tick_on net None R = R
-tick_on net (Some c) R = does (by_rows net c.1) c.0 (counted net c.1 R)
+tick_on net (Some c) R = does (by_rows net c.1) c.0 (counted R)
 
 -- one cycle
 abbrev pub tick : NetTree → Registers → Registers
@@ -93,7 +83,7 @@ ticks net (suc k) R = ticks net k (tick net R)
 
 -- the registers at reset
 abbrev pub reset : NetTree → Registers
-reset net = record { live = Some (0, ask (start_of net)); forks = []; next = 1; result = None; full = false; moves = 0; cells = 0 }
+reset net = record { live = Some (0, ask (start_of net)); forks = []; next = 1; result = None; full = false; moves = 0 }
 
 -- the ticket that moves, where there is a current token, and what follows
 abbrev pub on_live : Option (ℕ × TokenTree) → List ℕ → List ℕ

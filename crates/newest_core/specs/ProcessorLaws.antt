@@ -11,6 +11,7 @@ use Rattle.move_rules.specs.Moves.{join, move}
 use Rattle.interleave_laws.specs.States.{State}
 use Rattle.interleave_laws.specs.Runs.{LeadsTo, Runs}
 use Rattle.interleave_laws.specs.Finished.{Finished}
+use Rattle.net_rows.specs.RowMoves.{by_rows}
 use Rattle.newest_core.specs.Processor.{Half, waits, came, OpenFork, Registers, fork_at, ticks, reset, newest, token_at}
 
 -- the registers have the tokens, the entries, the next ticket and the answer of the state: each live token is the current one, or waits
@@ -45,6 +46,11 @@ Waits Right (came v) = Unit {0}
 abbrev pub IsInnermost : List OpenFork → ℕ → Boxes → Side → Type 0
 IsInnermost [] n t s = ⊥
 IsInnermost (f ∷ fs) n t s = (f.node ≡ n) × (f.boxes ≡ t) × Waits s f.half
+
+-- an answer of the current token that joins comes to the innermost fork, and answers what that waits for
+abbrev pub MeetsInnermost : NetTree → Registers → Type 0
+MeetsInnermost net R = (i : ℕ) (x : TokenTree) → R.live ≡ Some (i, x) → (n : ℕ) (o : Operator) (s : Side) (v : Val) (w : ℕ) (t : Boxes) →
+    by_rows net x ≡ join n o s v w t → IsInnermost R.forks n t s
 
 -- forks nest: an answer that comes to a fork comes to the innermost one, and answers the operand that it waits for
 abbrev pub ForksNest : Type 0
