@@ -76,10 +76,7 @@ int main(int argc, char **argv) {
             if (at) memcpy(schedule, at, schedule_size = needed - (size_t)(at - out));
         }
         for (int which = 0; which < CALLS; which++) {
-            long took;
-            /* (the rows of a circuit of so long a text take minutes to find) */
-            if (which == 7 && size > 10000) continue;
-            took = taken(which, (size_t)64 << 20);
+            long took = taken(which, (size_t)64 << 20);
             /* (not each of them has a translation, or is a number) */
             if (took < 0) continue;
             if (took > most) most = took, deepest = argv[i], by = calls[which];

@@ -2,3 +2,5 @@
 mod Powers
 -- rows that wait, from the first key on
 mod Keys
+-- a list read at a place
+mod Places

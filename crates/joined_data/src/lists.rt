@@ -44,6 +44,10 @@ fn add_origins(kinds: &mut Vec<Origin>, slot: Slot, rows: &[Row]) -> Result<(), 
 }
 
 /// The kinds of what rows have at a slot.
+///
+/// # Errors
+///
+/// `AllocError` where there is no memory for it.
 pub fn origins_at<'a>(
     alloc: Global,
     bump: &'a Bump,
@@ -91,6 +95,10 @@ fn add_operands(kinds: &mut Vec<Operand>, side: Side, rows: &[Row]) -> Result<()
 }
 
 /// The kinds of operands that rows have.
+///
+/// # Errors
+///
+/// `AllocError` where there is no memory for it.
 pub fn operands_at<'a>(
     alloc: Global,
     bump: &'a Bump,

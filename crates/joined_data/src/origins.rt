@@ -83,15 +83,9 @@ pub fn origin_place(list: &[Origin], o: Origin) -> u64
 fn origin_at(list: &[Origin], i: u32) -> Option<Origin>
     ensures { origin_if result ≡ from_at (map origin_view list.now) i }
 {
-    match list {
-        [] => None,
-        [first, rest @ ..] => {
-            if i == 0 {
-                Some(*first)
-            } else {
-                origin_at(rest, i - 1)
-            }
-        }
+    match list.get(i as usize) {
+        Some(o) => Some(*o),
+        None => None,
     }
 }
 

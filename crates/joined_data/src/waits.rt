@@ -89,6 +89,10 @@ fn add_all_waiting<'a>(found: &mut Vec<Row<'a>>, rows: &[Row<'a>]) -> Result<(),
 }
 
 /// All rows that a module finds.
+///
+/// # Errors
+///
+/// `AllocError` where there is no memory for it.
 pub fn found_rows<'a>(
     alloc: Global,
     bump: &'a Bump,
