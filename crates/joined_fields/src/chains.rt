@@ -171,6 +171,10 @@ fn fetch_chain<'a>(
 }
 
 /// The same as one statement.
+///
+/// # Errors
+///
+/// `AllocError` where there is no memory for it.
 #[tactic(auto, using(crate::proofs::Blocks::chain_block))]
 pub fn fetch_statement<'a>(
     alloc: Global,
@@ -221,6 +225,10 @@ fn list_chain<'a>(
 }
 
 /// The same as one statement.
+///
+/// # Errors
+///
+/// `AllocError` where there is no memory for it.
 #[tactic(auto, using(crate::proofs::Blocks::chain_block))]
 pub fn list_statement<'a>(
     alloc: Global,

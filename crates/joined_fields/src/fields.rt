@@ -169,6 +169,10 @@ pub fn side_title(side: Side) -> &'static [u8]
 }
 
 /// Which of an operand's kinds a row has.
+///
+/// # Errors
+///
+/// `AllocError` where there is no memory for it.
 pub fn operand_field<'a>(
     alloc: Global,
     bump: &'a Bump,
@@ -183,6 +187,10 @@ pub fn operand_field<'a>(
 }
 
 /// The number of an operand.
+///
+/// # Errors
+///
+/// `AllocError` where there is no memory for it.
 pub fn literal_field<'a>(
     alloc: Global,
     bump: &'a Bump,
@@ -219,6 +227,10 @@ fn add_input<'a>(
 }
 
 /// Which of a slot's kinds a row has.
+///
+/// # Errors
+///
+/// `AllocError` where there is no memory for it.
 pub fn by_field<'a>(
     alloc: Global,
     bump: &'a Bump,
@@ -276,6 +288,10 @@ fn add_slot_fields<'a>(
 }
 
 /// All fields.
+///
+/// # Errors
+///
+/// `AllocError` where there is no memory for it.
 pub fn row_fields<'a>(
     alloc: Global,
     bump: &'a Bump,

@@ -314,6 +314,10 @@ fn key_arms<'a>(
 }
 
 /// The block that finds a row.
+///
+/// # Errors
+///
+/// `AllocError` where there is no memory for it.
 pub fn find_statement<'a>(
     alloc: Global,
     bump: &'a Bump,

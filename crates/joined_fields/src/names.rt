@@ -66,6 +66,10 @@ fn numbered<'a>(alloc: Global, bump: &'a Bump, front: &[u8], n: u64) -> Result<&
 }
 
 /// One name behind another.
+///
+/// # Errors
+///
+/// `AllocError` where there is no memory for it.
 pub fn joined<'a>(
     alloc: Global,
     bump: &'a Bump,
@@ -82,6 +86,10 @@ pub fn joined<'a>(
 }
 
 /// A name of a group.
+///
+/// # Errors
+///
+/// `AllocError` where there is no memory for it.
 pub fn grouped<'a>(
     alloc: Global,
     bump: &'a Bump,

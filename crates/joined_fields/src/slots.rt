@@ -76,6 +76,10 @@ fn add_list(
 }
 
 /// All slots.
+///
+/// # Errors
+///
+/// `AllocError` where there is no memory for it.
 pub fn all_slots<'a>(alloc: Global, bump: &'a Bump, rows: &[Row]) -> Result<&'a [Slot], AllocError>
     requires sigs { sig_count (map row_view rows.now) < 2 ^ 31 }
     requires boxes { box_count (map row_view rows.now) < 2 ^ 31 }
@@ -104,6 +108,10 @@ pub(crate) fn most_tag(slots: &[Slot], rows: &[Row]) -> u64
 }
 
 /// The name of a slot's wire.
+///
+/// # Errors
+///
+/// `AllocError` where there is no memory for it.
 pub fn slot_title<'a>(alloc: Global, bump: &'a Bump, slot: Slot) -> Result<&'a [u8], AllocError>
     ensures { IfOk result (λ r. text_of r.now ≡ (slot_view slot).title) }
 {
@@ -125,6 +133,10 @@ pub(crate) fn slot_by<'a>(alloc: Global, bump: &'a Bump, slot: Slot) -> Result<&
 }
 
 /// The name of the field that says its tag.
+///
+/// # Errors
+///
+/// `AllocError` where there is no memory for it.
 pub fn slot_tagged<'a>(alloc: Global, bump: &'a Bump, slot: Slot) -> Result<&'a [u8], AllocError>
     ensures { IfOk result (λ r. text_of r.now ≡ tag_name (slot_view slot).title) }
 {

@@ -1,15 +1,57 @@
 -- Parts of a module's tree, each as `joined_module` has it.
-use Rattle.std.specs.Prelude.{List, [], ◌∷◌, ◌++◌}
+use Rattle.std.specs.Prelude.{Bool, true, false, List, [], ◌∷◌}
 use Prim.Native.String.{String}
-use Rattle.verilog_tree.specs.Tree.{count, plus, minus, both, one_of, Expr, num, sized, name, bit, part, cat, two, logic, none, pick}
-use Rattle.verilog_tree.specs.Tree.{Item, note, gap, wire, one, upto, Stmt, skip, put, seq, branch, word_at}
+use Rattle.verilog_tree.specs.Tree.{count, plus, both, one_of, Expr, num, sized, name, bit, part, cat, two, logic, none, pick}
+use Rattle.verilog_tree.specs.Tree.{Item, note, gap, reg, wire, one, upto, Stmt, skip, put, seq, branch, word_at}
 use Rattle.circuit_module.specs.Fixed.{set, block}
-use Rattle.joined_module.specs.Fields.{vector_wide}
-use Rattle.joined_module.specs.Module.{Widths, or_all, read_fork, read_answer, now}
+use Rattle.joined_module.specs.Module.{or_all, read_answer, now}
 
 -- the head of the last part
 abbrev pub clock_said : List Item
 clock_said = gap ∷ note "---- one row in each cycle in which none rests" ∷ gap ∷ []
+
+-- the cells, how many are in use, and the one that was read
+abbrev pub cells_said : List Item
+cells_said = gap ∷ note "The cells, how many are in use, and the one that was read." ∷ []
+
+-- the open forks
+abbrev pub forks_said : List Item
+forks_said =
+    gap ∷ note "The open forks: the boxes and the cells in use when each was opened, and its left answer; how many there are; what" ∷
+    note "the innermost one has; and whether one of these was written at the last edge, and isn't read yet." ∷ []
+
+-- and what else there is of registers
+abbrev pub store_rest : List Item
+store_rest =
+    reg (upto (count 64)) "kept" ∷ reg one "fresh" ∷ gap ∷
+    note "Whether the run's answer was told; whether the value was written at the last edge, and whether it was 0 before; and" ∷
+    note "whether the count of moves has a carry that its upper half wants." ∷ reg one "ended" ∷ reg one "changed" ∷ reg one "nonzero" ∷
+    reg one "carried" ∷ []
+
+-- the place of a new cell
+abbrev pub place_said : List Item
+place_said = gap ∷ note "---- what the row makes" ∷ gap ∷ []
+
+abbrev pub base_expr : Expr
+base_expr = pick (name "touches") (name "fork_top") (name "top")
+
+abbrev pub next_top_expr : Expr
+next_top_expr = pick (name "makes") (two plus (name "base") (sized 1 1)) (name "base")
+
+-- which fork is read, where an answer is kept, and what is saved when one is opened
+abbrev pub reads_fork_expr : Expr
+reads_fork_expr = pick (logic both (name "closes") (none (name "fresh"))) (name "around") (name "innermost")
+
+abbrev pub keeps_at_expr : Expr
+keeps_at_expr = pick (name "opens") (name "depth") (name "innermost")
+
+abbrev pub saved_top_expr : Expr
+saved_top_expr = pick (name "above") (name "next_top") (name "base")
+
+-- whether a difference is wanted
+abbrev pub less_wires : Bool → List Item
+less_wires false = wire one "less" (name "subtracts") ∷ []
+less_wires true = wire one "less" (logic both (name "subtracts") (none (name "begun"))) ∷ []
 
 -- whether the row rests, whether it is made, and whether a number begins; and the head of forks
 abbrev pub rest_flags : List Item

@@ -31,6 +31,10 @@ fn put<'a, T: Copy + Drop>(bump: &'a Bump, value: &T) -> Result<&'a T, AllocErro
 }
 
 /// An expression, put into the arena.
+///
+/// # Errors
+///
+/// `AllocError` where there is no memory for it.
 pub fn put_expression<'a>(
     bump: &'a Bump,
     e: &Expression<'a>,
@@ -42,6 +46,10 @@ pub fn put_expression<'a>(
 }
 
 /// A name.
+///
+/// # Errors
+///
+/// `AllocError` where there is no memory for it.
 pub fn put_name<'a>(bump: &'a Bump, x: &'a [u8]) -> Result<&'a Expression<'a>, AllocError>
     ensures { IfOk result (λ r. expr_of r.now ≡ name (text_of x.now)) }
 {
@@ -49,6 +57,10 @@ pub fn put_name<'a>(bump: &'a Bump, x: &'a [u8]) -> Result<&'a Expression<'a>, A
 }
 
 /// A number of so many bits.
+///
+/// # Errors
+///
+/// `AllocError` where there is no memory for it.
 pub fn put_sized<'a>(bump: &'a Bump, bits: u64, n: u64) -> Result<&'a Expression<'a>, AllocError>
     ensures { IfOk result (λ r. expr_of r.now ≡ sized bits n) }
 {
@@ -56,6 +68,10 @@ pub fn put_sized<'a>(bump: &'a Bump, bits: u64, n: u64) -> Result<&'a Expression
 }
 
 /// One behind the other.
+///
+/// # Errors
+///
+/// `AllocError` where there is no memory for it.
 pub fn put_cat<'a>(
     bump: &'a Bump,
     a: &'a Expression<'a>,
@@ -67,6 +83,10 @@ pub fn put_cat<'a>(
 }
 
 /// One or the other.
+///
+/// # Errors
+///
+/// `AllocError` where there is no memory for it.
 pub fn put_pick<'a>(
     bump: &'a Bump,
     c: &'a Expression<'a>,
@@ -79,6 +99,10 @@ pub fn put_pick<'a>(
 }
 
 /// A statement, put into the arena.
+///
+/// # Errors
+///
+/// `AllocError` where there is no memory for it.
 pub fn put_statement<'a>(bump: &'a Bump, s: &Statement<'a>) -> Result<&'a Statement<'a>, AllocError>
     ensures { IfOk result (λ r. stmt_of r.now ≡ stmt_of s.now) }
 {
@@ -87,6 +111,10 @@ pub fn put_statement<'a>(bump: &'a Bump, s: &Statement<'a>) -> Result<&'a Statem
 }
 
 /// One statement after the other.
+///
+/// # Errors
+///
+/// `AllocError` where there is no memory for it.
 pub fn put_seq<'a>(
     bump: &'a Bump,
     s: &'a Statement<'a>,
@@ -98,6 +126,10 @@ pub fn put_seq<'a>(
 }
 
 /// One statement or the other.
+///
+/// # Errors
+///
+/// `AllocError` where there is no memory for it.
 pub fn put_branch<'a>(
     bump: &'a Bump,
     e: &Expression<'a>,
@@ -110,6 +142,10 @@ pub fn put_branch<'a>(
 }
 
 /// x = e
+///
+/// # Errors
+///
+/// `AllocError` where there is no memory for it.
 pub fn put_set<'a>(
     bump: &'a Bump,
     name: &'a [u8],
@@ -121,6 +157,10 @@ pub fn put_set<'a>(
 }
 
 /// A register is set to 0 in front of the others.
+///
+/// # Errors
+///
+/// `AllocError` where there is no memory for it.
 pub fn put_zeroed<'a>(
     bump: &'a Bump,
     name: &'a [u8],
@@ -133,6 +173,10 @@ pub fn put_zeroed<'a>(
 }
 
 /// The arms of a case, put into the arena.
+///
+/// # Errors
+///
+/// `AllocError` where there is no memory for it.
 pub fn put_arms<'a>(bump: &'a Bump, arms: &Cases<'a>) -> Result<&'a Cases<'a>, AllocError>
     ensures { IfOk result (λ r. arms_of r.now ≡ arms_of arms.now) }
 {
@@ -141,6 +185,10 @@ pub fn put_arms<'a>(bump: &'a Bump, arms: &Cases<'a>) -> Result<&'a Cases<'a>, A
 }
 
 /// The values of a list, put into the arena.
+///
+/// # Errors
+///
+/// `AllocError` where there is no memory for it.
 pub fn put_all<'a, T: Copy>(bump: &'a Bump, values: &Vec<T>) -> Result<&'a [T], AllocError>
     ensures { IfOk result (λ r. r.now ≡ values.now.items) }
 {
@@ -165,6 +213,10 @@ fn add<T: Copy + Drop>(values: &mut Vec<T>, value: &T) -> Result<(), AllocError>
 }
 
 /// Appends an item.
+///
+/// # Errors
+///
+/// `AllocError` where there is no memory for it.
 pub fn add_item<'a>(items: &mut Vec<Item<'a>>, item: &Item<'a>) -> Result<(), AllocError>
     ensures { OnOk result (map item_of items.new.items ≡ map item_of items.old.items ++ (item_of item.now ∷ [])) }
 {

@@ -1,87 +1,129 @@
-//! Conditions of the clock.
+//! Conditions and places.
 
 ghost use Rattle.std.specs.Prelude.{◌≡◌};
 ghost use Rattle.joined_module.specs.Module.{now};
-ghost use Rattle.joined_fixed.specs.Parts.{fetches};
+ghost use Rattle.joined_fixed.specs.Parts.{fetches, base_expr, next_top_expr, reads_fork_expr, keeps_at_expr, saved_top_expr};
 ghost use Rattle.verilog_tree.specs.Tree.{name};
 ghost use Rattle.verilog_tree.specs.Views.{expr_of};
 
-use verilog_tree::{Connective, Expression};
+use verilog_tree::Expression;
+
+static RESETS: Expression<'static> = name!(b"rst");
 
 /// The reset is high.
-static RESETS: Expression<'static> = Expression::Name(b"rst");
-
-/// The same, lent for as long as it is wanted.
 pub fn resets<'a>() -> &'a Expression<'a>
     ensures { expr_of result.now ≡ name "rst" }
 {
     &RESETS
 }
 
-/// The row is made.
-static ACTS: Expression<'static> = Expression::Name(b"acts");
+static ACTS: Expression<'static> = name!(b"acts");
 
-/// The same, lent for as long as it is wanted.
+/// The row is made.
 pub fn acts<'a>() -> &'a Expression<'a>
     ensures { expr_of result.now ≡ name "acts" }
 {
     &ACTS
 }
 
-/// A fork is opened now.
-static OPENS: Expression<'static> = Expression::Logic(
-    Connective::Both,
-    &Expression::Name(b"acts"),
-    &Expression::Name(b"opens"),
-);
+static OPENS: Expression<'static> = both!(name!(b"acts"), name!(b"opens"));
 
-/// The same, lent for as long as it is wanted.
+/// A fork is opened now.
 pub fn opens_now<'a>() -> &'a Expression<'a>
     ensures { expr_of result.now ≡ now "opens" }
 {
     &OPENS
 }
 
-/// A cell is made.
-static MAKES: Expression<'static> = Expression::Name(b"makes");
+static MAKES: Expression<'static> = name!(b"makes");
 
-/// The same, lent for as long as it is wanted.
+/// A cell is made.
 pub fn makes<'a>() -> &'a Expression<'a>
     ensures { expr_of result.now ≡ name "makes" }
 {
     &MAKES
 }
 
-/// The next row is fetched.
-static FETCHES: Expression<'static> = Expression::Logic(
-    Connective::OneOf,
-    &Expression::Name(b"rst"),
-    &Expression::Not(&Expression::Name(b"rests")),
-);
+static FETCHES: Expression<'static> = either!(name!(b"rst"), not!(name!(b"rests")));
 
-/// The same, lent for as long as it is wanted.
+/// The next row is fetched.
 pub fn fetches<'a>() -> &'a Expression<'a>
     ensures { expr_of result.now ≡ fetches }
 {
     &FETCHES
 }
 
-/// The place of a new cell.
-static BASE: Expression<'static> = Expression::Name(b"base");
+static BASE: Expression<'static> = name!(b"base");
 
-/// The same, lent for as long as it is wanted.
+/// The place of a new cell.
 pub fn base<'a>() -> &'a Expression<'a>
     ensures { expr_of result.now ≡ name "base" }
 {
     &BASE
 }
 
-/// The cells in use when a fork is opened.
-static TOP_SAVED: Expression<'static> = Expression::Name(b"saved_top");
+static NEW_BASE: Expression<'static> = pick!(name!(b"touches"), name!(b"fork_top"), name!(b"top"));
 
-/// The same, lent for as long as it is wanted.
+/// What it is.
+pub fn base_expression<'a>() -> &'a Expression<'a>
+    ensures { expr_of result.now ≡ base_expr }
+{
+    &NEW_BASE
+}
+
+static NEXT_TOP: Expression<'static> = pick!(
+    name!(b"makes"),
+    plus!(name!(b"base"), sized!(1, 1)),
+    name!(b"base")
+);
+
+/// The cells in use after the row.
+pub fn next_top_expression<'a>() -> &'a Expression<'a>
+    ensures { expr_of result.now ≡ next_top_expr }
+{
+    &NEXT_TOP
+}
+
+static READS_FORK: Expression<'static> = pick!(
+    both!(name!(b"closes"), not!(name!(b"fresh"))),
+    name!(b"around"),
+    name!(b"innermost")
+);
+
+/// The fork that is read.
+pub fn reads_fork_expression<'a>() -> &'a Expression<'a>
+    ensures { expr_of result.now ≡ reads_fork_expr }
+{
+    &READS_FORK
+}
+
+static KEEPS_AT: Expression<'static> = pick!(name!(b"opens"), name!(b"depth"), name!(b"innermost"));
+
+/// The fork at which an answer is kept.
+pub fn keeps_at_expression<'a>() -> &'a Expression<'a>
+    ensures { expr_of result.now ≡ keeps_at_expr }
+{
+    &KEEPS_AT
+}
+
+static SAVED_TOP: Expression<'static> = name!(b"saved_top");
+
+/// The cells in use when a fork is opened.
 pub fn saved_top<'a>() -> &'a Expression<'a>
     ensures { expr_of result.now ≡ name "saved_top" }
 {
-    &TOP_SAVED
+    &SAVED_TOP
+}
+
+static NEW_SAVED_TOP: Expression<'static> = pick!(
+    name!(b"above"),
+    name!(b"next_top"),
+    name!(b"base")
+);
+
+/// What they are.
+pub fn saved_top_expression<'a>() -> &'a Expression<'a>
+    ensures { expr_of result.now ≡ saved_top_expr }
+{
+    &NEW_SAVED_TOP
 }

@@ -6,68 +6,24 @@ ghost use Rattle.verilog_tree.specs.Views.{item_of};
 
 use crate::arena::{Fixed, add_fixed};
 use std::alloc::AllocError;
-use verilog_tree::{Connective, Expression, Extent, Item, Operation, Range};
+use verilog_tree::Item;
 
-/// Whether the row rests, whether it is made, and whether a number begins; and the head of forks.
 static REST_FLAGS: Fixed<'static> = Fixed {
     list: &[
         Item::Gap,
         Item::Note(b"Whether the row rests, whether it is made now, and whether a number begins."),
-        Item::Wire(
-            Range::One,
+        wire!(
             b"rests",
-            Expression::Logic(
-                Connective::OneOf,
-                &Expression::Name(b"ended"),
-                &Expression::Logic(
-                    Connective::OneOf,
-                    &Expression::Name(b"full"),
-                    &Expression::Logic(
-                        Connective::OneOf,
-                        &Expression::Logic(
-                            Connective::Both,
-                            &Expression::Name(b"busy"),
-                            &Expression::Name(b"needs"),
-                        ),
-                        &Expression::Logic(
-                            Connective::OneOf,
-                            &Expression::Logic(
-                                Connective::Both,
-                                &Expression::Logic(
-                                    Connective::OneOf,
-                                    &Expression::Name(b"busy"),
-                                    &Expression::Name(b"changed"),
-                                ),
-                                &Expression::Name(b"tests"),
-                            ),
-                            &Expression::Logic(
-                                Connective::Both,
-                                &Expression::Name(b"fresh"),
-                                &Expression::Name(b"touches"),
-                            ),
-                        ),
-                    ),
-                ),
-            ),
+            either!(
+                name!(b"ended"),
+                name!(b"full"),
+                both!(name!(b"busy"), name!(b"needs")),
+                both!(either!(name!(b"busy"), name!(b"changed")), name!(b"tests")),
+                both!(name!(b"fresh"), name!(b"touches"))
+            )
         ),
-        Item::Wire(
-            Range::One,
-            b"acts",
-            Expression::Logic(
-                Connective::Both,
-                &Expression::Not(&Expression::Name(b"rests")),
-                &Expression::Not(&Expression::Name(b"waits")),
-            ),
-        ),
-        Item::Wire(
-            Range::One,
-            b"starts",
-            Expression::Logic(
-                Connective::Both,
-                &Expression::Name(b"acts"),
-                &Expression::Name(b"computes"),
-            ),
-        ),
+        wire!(b"acts", both!(not!(name!(b"rests")), not!(name!(b"waits")))),
+        wire!(b"starts", both!(name!(b"acts"), name!(b"computes"))),
         Item::Gap,
         Item::Note(b"---- forks"),
         Item::Gap,
@@ -75,58 +31,50 @@ static REST_FLAGS: Fixed<'static> = Fixed {
 };
 
 /// Appends whether the row rests, whether it is made, and whether a number begins; and the head of forks.
+///
+/// # Errors
+///
+/// `AllocError` where there is no memory for it.
 pub fn add_rest_flags<'a>(items: &mut Vec<Item<'a>>) -> Result<(), AllocError>
     ensures { OnOk result (map item_of items.new.items ≡ map item_of items.old.items ++ rest_flags) }
 {
     add_fixed(items, &REST_FLAGS)
 }
 
-/// The count of moves.
 static COUNTS: Fixed<'static> = Fixed {
     list: &[
         Item::Gap,
         Item::Note(b"---- the count of moves, its upper half an edge behind"),
         Item::Gap,
-        Item::Wire(
-            Range::UpTo(Extent::Count(8)),
+        wire!(
+            8,
             b"moves_low",
-            Expression::Two(
-                Operation::Plus,
-                &Expression::Cat(
-                    &Expression::Sized(1, 0),
-                    &Expression::Part(b"moves", Extent::Count(7), Extent::Count(0)),
-                ),
-                &Expression::Name(b"counts"),
-            ),
+            plus!(cat!(sized!(1, 0), part!(b"moves", 7, 0)), name!(b"counts"))
         ),
-        Item::Wire(
-            Range::UpTo(Extent::Count(24)),
+        wire!(
+            24,
             b"moves_middle",
-            Expression::Two(
-                Operation::Plus,
-                &Expression::Cat(
-                    &Expression::Sized(1, 0),
-                    &Expression::Part(b"moves", Extent::Count(31), Extent::Count(8)),
-                ),
-                &Expression::Cat(
-                    &Expression::Sized(24, 0),
-                    &Expression::Bit(b"moves_low", &Expression::Number(8)),
-                ),
-            ),
+            plus!(
+                cat!(sized!(1, 0), part!(b"moves", 31, 8)),
+                cat!(sized!(24, 0), bit!(b"moves_low", 8))
+            )
         ),
-        Item::Wire(
-            Range::UpTo(Extent::Count(31)),
+        wire!(
+            31,
             b"moves_high",
-            Expression::Two(
-                Operation::Plus,
-                &Expression::Part(b"moves", Extent::Count(63), Extent::Count(32)),
-                &Expression::Cat(&Expression::Sized(31, 0), &Expression::Name(b"carried")),
-            ),
+            plus!(
+                part!(b"moves", 63, 32),
+                cat!(sized!(31, 0), name!(b"carried"))
+            )
         ),
     ],
 };
 
 /// Appends the count of moves.
+///
+/// # Errors
+///
+/// `AllocError` where there is no memory for it.
 pub fn add_count_wires<'a>(items: &mut Vec<Item<'a>>) -> Result<(), AllocError>
     ensures { OnOk result (map item_of items.new.items ≡ map item_of items.old.items ++ count_wires) }
 {

@@ -2,275 +2,99 @@
 
 ghost use Rattle.std.specs.Prelude.{◌≡◌};
 ghost use Rattle.joined_module.specs.Unit.{unit_stmt};
-ghost use Rattle.std.specs.Prelude.{true, false};
 ghost use Rattle.verilog_tree.specs.Views.{stmt_of};
 
-use verilog_tree::{Connective, Direction, Expression, Extent, Place, Statement};
+use verilog_tree::{Direction, Expression, Statement};
 
-/// A sum or a difference goes on.
-static UNIT: Statement<'static> = Statement::Seq(
-    &Statement::Seq(
-        &Statement::Put(
-            Place::Whole(b"part0"),
-            Expression::Part(b"meet0", Extent::Count(17), Extent::Count(1)),
-        ),
-        &Statement::Seq(
-            &Statement::Put(
-                Place::Whole(b"part1"),
-                Expression::Part(b"meet1", Extent::Count(17), Extent::Count(1)),
-            ),
-            &Statement::Seq(
-                &Statement::Put(
-                    Place::Whole(b"next1"),
-                    Expression::Part(b"more1", Extent::Count(17), Extent::Count(1)),
-                ),
-                &Statement::Seq(
-                    &Statement::Put(
-                        Place::Whole(b"part2"),
-                        Expression::Part(b"meet2", Extent::Count(17), Extent::Count(1)),
-                    ),
-                    &Statement::Seq(
-                        &Statement::Put(
-                            Place::Whole(b"next2"),
-                            Expression::Part(b"more2", Extent::Count(17), Extent::Count(1)),
-                        ),
-                        &Statement::Seq(
-                            &Statement::Put(
-                                Place::Whole(b"part3"),
-                                Expression::Part(b"meet3", Extent::Count(17), Extent::Count(1)),
-                            ),
-                            &Statement::Put(
-                                Place::Whole(b"next3"),
-                                Expression::Part(b"more3", Extent::Count(17), Extent::Count(1)),
-                            ),
-                        ),
-                    ),
-                ),
-            ),
-        ),
-    ),
-    &Statement::Seq(
-        &Statement::Put(Place::Whole(b"was_less"), Expression::Name(b"less")),
-        &Statement::Seq(
-            &Statement::Put(
-                Place::Whole(b"spoilt"),
-                Expression::Logic(
-                    Connective::OneOf,
-                    &Expression::Bit(b"first", &Expression::Number(64)),
-                    &Expression::Bit(b"second", &Expression::Number(64)),
-                ),
-            ),
-            &Statement::Put(
-                Place::Whole(b"meets"),
-                Expression::Logic(
-                    Connective::Both,
-                    &Expression::Name(b"starts"),
-                    &Expression::Not(&Expression::Name(b"rst")),
-                ),
-            ),
-        ),
-    ),
+/// The quarters meet.
+const MEET: Statement<'static> = block!(
+    set!(b"part0", part!(b"meet0", 17, 1)),
+    set!(b"part1", part!(b"meet1", 17, 1)),
+    set!(b"next1", part!(b"more1", 17, 1)),
+    set!(b"part2", part!(b"meet2", 17, 1)),
+    set!(b"next2", part!(b"more2", 17, 1)),
+    set!(b"part3", part!(b"meet3", 17, 1)),
+    set!(b"next3", part!(b"more3", 17, 1))
 );
 
-/// The same, lent for as long as it is wanted.
-pub fn unit_statement<'a>() -> &'a Statement<'a>
-    ensures { stmt_of result.now ≡ unit_stmt false }
-{
-    &UNIT
-}
-
-/// The same where there are products.
-static UNIT_PRODUCT: Statement<'static> = Statement::Seq(
-    &Statement::Seq(
-        &Statement::Put(
-            Place::Whole(b"part0"),
-            Expression::Part(b"meet0", Extent::Count(17), Extent::Count(1)),
-        ),
-        &Statement::Seq(
-            &Statement::Put(
-                Place::Whole(b"part1"),
-                Expression::Part(b"meet1", Extent::Count(17), Extent::Count(1)),
-            ),
-            &Statement::Seq(
-                &Statement::Put(
-                    Place::Whole(b"next1"),
-                    Expression::Part(b"more1", Extent::Count(17), Extent::Count(1)),
-                ),
-                &Statement::Seq(
-                    &Statement::Put(
-                        Place::Whole(b"part2"),
-                        Expression::Part(b"meet2", Extent::Count(17), Extent::Count(1)),
-                    ),
-                    &Statement::Seq(
-                        &Statement::Put(
-                            Place::Whole(b"next2"),
-                            Expression::Part(b"more2", Extent::Count(17), Extent::Count(1)),
-                        ),
-                        &Statement::Seq(
-                            &Statement::Put(
-                                Place::Whole(b"part3"),
-                                Expression::Part(b"meet3", Extent::Count(17), Extent::Count(1)),
-                            ),
-                            &Statement::Put(
-                                Place::Whole(b"next3"),
-                                Expression::Part(b"more3", Extent::Count(17), Extent::Count(1)),
-                            ),
-                        ),
-                    ),
-                ),
-            ),
-        ),
-    ),
-    &Statement::Seq(
-        &Statement::Put(Place::Whole(b"was_less"), Expression::Name(b"less")),
-        &Statement::Seq(
-            &Statement::Branch(
-                Expression::Name(b"begun"),
-                &Statement::Seq(
-                    &Statement::Put(
-                        Place::Whole(b"adds"),
-                        Expression::Not(&Expression::Name(b"adds")),
-                    ),
-                    &Statement::Branch(
-                        Expression::Name(b"adds"),
-                        &Statement::Seq(
-                            &Statement::Branch(
-                                Expression::Bit(b"rest", &Expression::Number(0)),
-                                &Statement::Seq(
-                                    &Statement::Put(
-                                        Place::Whole(b"total"),
-                                        Expression::Name(b"met"),
-                                    ),
-                                    &Statement::Put(
-                                        Place::Whole(b"beyond"),
-                                        Expression::Logic(
-                                            Connective::OneOf,
-                                            &Expression::Name(b"beyond"),
-                                            &Expression::Logic(
-                                                Connective::OneOf,
-                                                &Expression::Name(b"lost"),
-                                                &Expression::Bit(
-                                                    b"right3",
-                                                    &Expression::Number(16),
-                                                ),
-                                            ),
-                                        ),
-                                    ),
-                                ),
-                                &Statement::Skip,
-                            ),
-                            &Statement::Seq(
-                                &Statement::Put(
-                                    Place::Whole(b"rest"),
-                                    Expression::Shift(
-                                        Direction::Right,
-                                        &Expression::Name(b"rest"),
-                                        &Expression::Number(1),
-                                    ),
-                                ),
-                                &Statement::Seq(
-                                    &Statement::Put(
-                                        Place::Whole(b"factor"),
-                                        Expression::Shift(
-                                            Direction::Left,
-                                            &Expression::Name(b"factor"),
-                                            &Expression::Number(1),
-                                        ),
-                                    ),
-                                    &Statement::Put(
-                                        Place::Whole(b"lost"),
-                                        Expression::Logic(
-                                            Connective::OneOf,
-                                            &Expression::Name(b"lost"),
-                                            &Expression::Bit(b"factor", &Expression::Number(63)),
-                                        ),
-                                    ),
-                                ),
-                            ),
-                        ),
-                        &Statement::Skip,
-                    ),
-                ),
-                &Statement::Seq(
-                    &Statement::Put(
-                        Place::Whole(b"spoilt"),
-                        Expression::Logic(
-                            Connective::OneOf,
-                            &Expression::Bit(b"first", &Expression::Number(64)),
-                            &Expression::Bit(b"second", &Expression::Number(64)),
-                        ),
-                    ),
-                    &Statement::Seq(
-                        &Statement::Put(
-                            Place::Whole(b"rest"),
-                            Expression::Part(b"second", Extent::Count(63), Extent::Count(0)),
-                        ),
-                        &Statement::Seq(
-                            &Statement::Put(
-                                Place::Whole(b"factor"),
-                                Expression::Part(b"first", Extent::Count(63), Extent::Count(0)),
-                            ),
-                            &Statement::Seq(
-                                &Statement::Put(Place::Whole(b"total"), Expression::Number(0)),
-                                &Statement::Seq(
-                                    &Statement::Put(Place::Whole(b"lost"), Expression::Number(0)),
-                                    &Statement::Seq(
-                                        &Statement::Put(
-                                            Place::Whole(b"beyond"),
-                                            Expression::Number(0),
-                                        ),
-                                        &Statement::Put(
-                                            Place::Whole(b"adds"),
-                                            Expression::Number(0),
-                                        ),
-                                    ),
-                                ),
-                            ),
-                        ),
-                    ),
-                ),
-            ),
-            &Statement::Seq(
-                &Statement::Put(
-                    Place::Whole(b"begun"),
-                    Expression::Logic(
-                        Connective::Both,
-                        &Expression::Not(&Expression::Name(b"rst")),
-                        &Expression::Logic(
-                            Connective::OneOf,
-                            &Expression::Logic(
-                                Connective::Both,
-                                &Expression::Name(b"starts"),
-                                &Expression::Name(b"multiplies"),
-                            ),
-                            &Expression::Logic(
-                                Connective::Both,
-                                &Expression::Name(b"begun"),
-                                &Expression::Not(&Expression::Name(b"last")),
-                            ),
-                        ),
-                    ),
-                ),
-                &Statement::Put(
-                    Place::Whole(b"meets"),
-                    Expression::Logic(
-                        Connective::Both,
-                        &Expression::Name(b"starts"),
-                        &Expression::Logic(
-                            Connective::Both,
-                            &Expression::Not(&Expression::Name(b"multiplies")),
-                            &Expression::Not(&Expression::Name(b"rst")),
-                        ),
-                    ),
-                ),
-            ),
-        ),
-    ),
+/// Whether an operand is an overflow.
+const SPOILT: Statement<'static> = set!(
+    b"spoilt",
+    either!(bit!(b"first", 64), bit!(b"second", 64))
 );
 
-/// The same, lent for as long as it is wanted.
-pub fn unit_product_statement<'a>() -> &'a Statement<'a>
-    ensures { stmt_of result.now ≡ unit_stmt true }
+static UNIT: Statement<'static> = block!(
+    MEET,
+    set!(b"was_less", name!(b"less")),
+    SPOILT,
+    set!(b"meets", both!(name!(b"starts"), not!(name!(b"rst"))))
+);
+
+static UNIT_PRODUCT: Statement<'static> = block!(
+    MEET,
+    set!(b"was_less", name!(b"less")),
+    branch!(
+        name!(b"begun"),
+        block!(
+            set!(b"adds", not!(name!(b"adds"))),
+            branch!(
+                name!(b"adds"),
+                block!(
+                    branch!(
+                        bit!(b"rest", 0),
+                        block!(
+                            set!(b"total", name!(b"met")),
+                            set!(
+                                b"beyond",
+                                either!(name!(b"beyond"), name!(b"lost"), bit!(b"right3", 16))
+                            )
+                        )
+                    ),
+                    set!(
+                        b"rest",
+                        Expression::Shift(Direction::Right, &name!(b"rest"), &num!(1))
+                    ),
+                    set!(
+                        b"factor",
+                        Expression::Shift(Direction::Left, &name!(b"factor"), &num!(1))
+                    ),
+                    set!(b"lost", either!(name!(b"lost"), bit!(b"factor", 63)))
+                )
+            )
+        ),
+        block!(
+            SPOILT,
+            set!(b"rest", part!(b"second", 63, 0)),
+            set!(b"factor", part!(b"first", 63, 0)),
+            set!(b"total", num!(0)),
+            set!(b"lost", num!(0)),
+            set!(b"beyond", num!(0)),
+            set!(b"adds", num!(0))
+        )
+    ),
+    set!(
+        b"begun",
+        both!(
+            not!(name!(b"rst")),
+            either!(
+                both!(name!(b"starts"), name!(b"multiplies")),
+                both!(name!(b"begun"), not!(name!(b"last")))
+            )
+        )
+    ),
+    set!(
+        b"meets",
+        both!(
+            name!(b"starts"),
+            not!(name!(b"multiplies")),
+            not!(name!(b"rst"))
+        )
+    )
+);
+
+/// A number goes on.
+pub fn unit_statement<'a>(product: bool) -> &'a Statement<'a>
+    ensures { stmt_of result.now ≡ unit_stmt product }
 {
-    &UNIT_PRODUCT
+    if product { &UNIT_PRODUCT } else { &UNIT }
 }

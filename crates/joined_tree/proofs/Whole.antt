@@ -16,8 +16,8 @@ use Rattle.joined_module.specs.Fields.{Field, sig_count, box_count, fork_count, 
 use Rattle.joined_module.specs.Fits.{counts_fit, widths_fit, fields_small, each_within, rows_fit_module}
 use Rattle.joined_module.specs.Module.{Widths, list_sets, widths, pointers_above, pointers_vector, joined_ports, ports_said}
 use Rattle.joined_module.specs.Module.{field_registers, lists_said, store_registers, head_items, module_items, has_product}
-use Rattle.joined_tree.specs.Parts.{begun_expr, less_wires, cells_said, cell_registers, forks_said, fork_registers, store_rest, row_items}
-use Rattle.joined_tree.specs.Parts.{store_items}
+use Rattle.joined_fixed.specs.Parts.{less_wires, cells_said, forks_said, store_rest}
+use Rattle.joined_tree.specs.Parts.{begun_expr, cell_registers, fork_registers, row_items, store_items}
 
 -- each register takes its port
 pub held_lists : (i n : ℕ) → list_sets held_name arg_name i n ≡ held_sets i n

@@ -1,8 +1,8 @@
 -- Parts of a module's tree, each as `joined_module` has it.
 use Rattle.std.specs.Prelude.{ℕ, ◌+◌, ◌-◌, max, Bool, true, false, List, [], ◌∷◌, ◌++◌}
 use Prim.Native.String.{String}
-use Rattle.verilog_tree.specs.Tree.{count, plus, minus, same, both, one_of, Expr, sized, name, part, word, cat, two, test, logic, none}
-use Rattle.verilog_tree.specs.Tree.{pick, word_at, Stmt, skip, put, seq, branch, Item, note, gap, reg, memory, wire, one, upto}
+use Rattle.verilog_tree.specs.Tree.{count, plus, minus, same, both, Expr, sized, name, part, word, cat, two, test, logic}
+use Rattle.verilog_tree.specs.Tree.{pick, word_at, Stmt, skip, put, seq, branch, Item, reg, memory, wire, one, upto}
 use Rattle.circuit_module.specs.Fixed.{set, block}
 use Rattle.joined_module.specs.Names.{sig_name, box_name, word_name, fork_box_name, next_sig_name, next_box_name, open_box_name}
 use Rattle.joined_module.specs.Names.{new_word_name}
@@ -12,7 +12,8 @@ use Rattle.joined_module.specs.Ports.{arg_inputs, held_regs}
 use Rattle.joined_module.specs.Module.{Widths, cell_width, fork_width, joined_ports, ports_said, field_registers, lists_said}
 use Rattle.joined_module.specs.Module.{pointer_registers, store_registers, read_said, pointer_parts, pointers_above, pointers_vector}
 use Rattle.joined_module.specs.Module.{place_wires, list_sets, no_room_expr}
-use Rattle.joined_fixed.specs.Parts.{zeroed, end_stmt, full_stmt}
+use Rattle.joined_fixed.specs.Parts.{zeroed, end_stmt, full_stmt, base_expr, next_top_expr, reads_fork_expr, keeps_at_expr}
+use Rattle.joined_fixed.specs.Parts.{saved_top_expr}
 
 -- the cell of a pointer, with another tag
 abbrev pub tagged_part : (place tag : ℕ) → Expr → String → Expr
@@ -22,61 +23,27 @@ tagged_part p t e x = cat (part x (count (p + t - 1)) (count t)) e
 abbrev pub chosen : Expr → (bits n : ℕ) → Expr → Expr → Expr
 chosen e b n x others = pick (test same e (sized b n)) x others
 
--- the cells, how many are in use, and the one that was read
-abbrev pub cells_said : List Item
-cells_said = gap ∷ note "The cells, how many are in use, and the one that was read." ∷ []
-
+-- the registers of cells
 abbrev pub cell_registers : Widths → List Item
 cell_registers W =
     memory (vector_wide (cell_width W)) "cells" (count (max 1 W.cells)) ∷ reg (vector_wide W.place) "top" ∷
     reg (vector_wide (cell_width W)) "cell_has" ∷ []
 
--- the open forks
-abbrev pub forks_said : List Item
-forks_said =
-    gap ∷ note "The open forks: the boxes and the cells in use when each was opened, and its left answer; how many there are; what" ∷
-    note "the innermost one has; and whether one of these was written at the last edge, and isn't read yet." ∷ []
-
+-- of forks
 abbrev pub fork_registers : Widths → List Item
 fork_registers W =
     memory (vector_wide (fork_width W)) "forks" (count (max 1 W.forks)) ∷ memory (upto (count 64)) "answers" (count (max 1 W.forks)) ∷
     reg (vector_wide W.depth) "depth" ∷ reg (vector_wide (fork_width W)) "fork_has" ∷ []
-
--- and what else there is
-abbrev pub store_rest : List Item
-store_rest =
-    reg (upto (count 64)) "kept" ∷ reg one "fresh" ∷ gap ∷
-    note "Whether the run's answer was told; whether the value was written at the last edge, and whether it was 0 before; and" ∷
-    note "whether the count of moves has a carry that its upper half wants." ∷ reg one "ended" ∷ reg one "changed" ∷ reg one "nonzero" ∷
-    reg one "carried" ∷ []
 
 -- the cells in use when the innermost fork was opened
 abbrev pub fork_top_wire : Widths → List Item
 fork_top_wire W = wire (vector_wide W.place) "fork_top" (part "fork_has" (count (W.place - 1)) (count 0)) ∷ []
 
 -- the place of a new cell
-abbrev pub place_said : List Item
-place_said = gap ∷ note "---- what the row makes" ∷ gap ∷ []
-
-abbrev pub base_expr : Expr
-base_expr = pick (name "touches") (name "fork_top") (name "top")
-
-abbrev pub next_top_expr : Expr
-next_top_expr = pick (name "makes") (two plus (name "base") (sized 1 1)) (name "base")
-
 abbrev pub base_wires : Widths → List Item
 base_wires W = wire (vector_wide W.place) "base" base_expr ∷ wire (vector_wide W.place) "next_top" next_top_expr ∷ []
 
 -- forks
-abbrev pub reads_fork_expr : Expr
-reads_fork_expr = pick (logic both (name "closes") (none (name "fresh"))) (name "around") (name "innermost")
-
-abbrev pub keeps_at_expr : Expr
-keeps_at_expr = pick (name "opens") (name "depth") (name "innermost")
-
-abbrev pub saved_top_expr : Expr
-saved_top_expr = pick (name "above") (name "next_top") (name "base")
-
 abbrev pub less_one : (bits : ℕ) → String → Expr
 less_one b x = two minus (name x) (sized b 1)
 
@@ -91,10 +58,6 @@ abbrev pub goes_expr : (bits start : ℕ) → Expr
 goes_expr b start = pick (name "rst") (sized b start) (name "to")
 
 -- operands
-abbrev pub less_wires : Bool → List Item
-less_wires false = wire one "less" (name "subtracts") ∷ []
-less_wires true = wire one "less" (logic both (name "subtracts") (none (name "begun"))) ∷ []
-
 abbrev pub begun_expr : Bool → String → Expr → Expr
 begun_expr false x e = e
 begun_expr true x e = pick (name "begun") (cat (sized 1 0) (name x)) e
@@ -102,9 +65,6 @@ begun_expr true x e = pick (name "begun") (cat (sized 1 0) (name x)) e
 -- too little room for what the row makes
 abbrev pub at_limit : String → String → (bits n : ℕ) → Expr
 at_limit x y b n = logic both (name x) (test same (name y) (sized b n))
-
-abbrev pub no_room_all : (none_found cells forks : Expr) → Expr
-no_room_all e f g = logic one_of e (logic one_of f g)
 
 -- ---- the block of the clock
 

@@ -4,10 +4,8 @@ ghost use Rattle.std.specs.Prelude.{◌≡◌, IfOk, map};
 ghost use Rattle.verilog_tree.specs.Tree.{logic, one_of};
 ghost use Rattle.verilog_tree.specs.Names.{text_of};
 ghost use Rattle.verilog_tree.specs.Views.{expr_of, stmt_of};
-ghost use Rattle.joined_module.specs.Module.{zero_stmt_of, value_stmt, fetch_stmt, open_stmt, fork_stmt, no_room_expr, act_stmt, go_stmt};
+ghost use Rattle.joined_module.specs.Module.{fetch_stmt, fork_stmt, no_room_expr, act_stmt, go_stmt};
 ghost use Rattle.joined_module.specs.Module.{reset_stmt, joined_clock_stmt};
-ghost use Rattle.joined_module.specs.Unit.{unit_stmt};
-ghost use Rattle.joined_fixed.specs.Parts.{zeroed};
 ghost use Rattle.joined_fields.specs.Views.{field_view, widths_view, Narrow};
 ghost use Rattle.joined_tree.specs.Parts.{at_limit, cell_wanted, ends_stmt, fork_written, last_zeroed, lists_stmt, looked_place};
 ghost use Rattle.joined_tree.specs.Parts.{makes_stmt, one_deeper};
@@ -18,45 +16,11 @@ use joined_fields::{Field, Group, Widths, fetch_statement, list_statement};
 use joined_fixed::{
     acts, count_statement, done_statement, end_statement, fetches, fork_rest, full_statement,
     makes, nothing, opens_now, put_branch, put_expression, put_name, put_seq, put_set, put_sized,
-    put_statement, put_zeroed, read_fork, resets, saved_top, top_statement, unit_product_statement,
-    unit_statement, value_product_statement, value_statement, zero_product_statement,
-    zero_statement,
+    put_statement, put_zeroed, read_fork, resets, saved_top, top_statement, unit_statement,
+    value_statement, zero_statement,
 };
 use std::alloc::{AllocError, Global};
 use verilog_tree::{Comparison, Connective, Expression, Extent, Operation, Place, Statement};
-
-/// The unit in each cycle.
-fn unit_of<'a>(product: bool) -> &'a Statement<'a>
-    ensures { stmt_of result.now ≡ unit_stmt product }
-{
-    if product {
-        unit_product_statement()
-    } else {
-        unit_statement()
-    }
-}
-
-/// Whether the value is 0.
-fn zero_of<'a>(product: bool) -> &'a Statement<'a>
-    ensures { stmt_of result.now ≡ zero_stmt_of product }
-{
-    if product {
-        zero_product_statement()
-    } else {
-        zero_statement()
-    }
-}
-
-/// The value comes.
-fn value_of<'a>(product: bool) -> &'a Statement<'a>
-    ensures { stmt_of result.now ≡ value_stmt product }
-{
-    if product {
-        value_product_statement()
-    } else {
-        value_statement()
-    }
-}
 
 /// The cell that the next row wants.
 fn cell_wanted<'a>(bump: &'a Bump, w: &Widths) -> Result<&'a Statement<'a>, AllocError>
@@ -229,7 +193,7 @@ fn go<'a>(
     let acting = put_branch(bump, acts(), act, nothing())?;
     let ending = put_seq(bump, acting, done_statement())?;
     let counting = put_seq(bump, count_statement(), ending)?;
-    let value = put_seq(bump, value_of(product), counting)?;
+    let value = put_seq(bump, value_statement(product), counting)?;
     let forks = forks(alloc, bump, w)?;
     put_seq(bump, forks, value)
 }
@@ -276,6 +240,6 @@ pub(crate) fn clock_statement<'a>(
     let runs = put_branch(bump, resets(), begins, goes_on)?;
     let fetch = fetch(alloc, bump, w, fields)?;
     let fetching = put_seq(bump, fetch, runs)?;
-    let zero = put_seq(bump, zero_of(product), fetching)?;
-    put_seq(bump, unit_of(product), zero)
+    let zero = put_seq(bump, zero_statement(product), fetching)?;
+    put_seq(bump, unit_statement(product), zero)
 }

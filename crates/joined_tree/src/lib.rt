@@ -7,6 +7,5 @@ mod clock;
 mod module;
 mod pointers;
 mod registers;
-mod said;
 
 pub use module::joined_items;

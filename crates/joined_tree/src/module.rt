@@ -1,6 +1,6 @@
 //! The whole module.
 
-ghost use Rattle.std.specs.Prelude.{◌≡◌, ◌<◌, ◌++◌, ◌^◌, [], ◌∷◌, true, IfOk, OnOk, map};
+ghost use Rattle.std.specs.Prelude.{◌≡◌, ◌<◌, ◌++◌, ◌^◌, true, IfOk, OnOk, map};
 ghost use Rattle.verilog_tree.specs.Views.{expr_of, item_of};
 ghost use Rattle.verilog_tree.specs.Names.{text_of};
 ghost use Rattle.joined_module.specs.Fields.{all_slots, row_fields, input_expr, first_input, second_input, sig_count, box_count};
@@ -9,11 +9,11 @@ ghost use Rattle.joined_module.specs.Fits.{module_fits};
 ghost use Rattle.joined_module.specs.Module.{widths, has_product, found_rows, place_wires, find_said, found_registers, find_items};
 ghost use Rattle.joined_module.specs.Module.{rest_wires, clock_items};
 ghost use Rattle.joined_module.specs.Module.{head_items, found_items, last_items, module_items, joined_module};
-ghost use Rattle.joined_module.specs.Unit.{product_parts, busy_wires, unit_registers, operand_wires_of, unit_wires};
+ghost use Rattle.joined_module.specs.Unit.{operand_wires_of};
 ghost use Rattle.joined_data.specs.Views.{row_view};
-ghost use Rattle.joined_data.specs.Figures.{slot_view, input_view};
+ghost use Rattle.joined_data.specs.Figures.{slot_view};
 ghost use Rattle.joined_fields.specs.Views.{field_view, widths_view, room_of, table_of, Narrow};
-ghost use Rattle.joined_tree.specs.Parts.{row_items, store_items, read_items, goes_expr, begun_expr, less_wires};
+ghost use Rattle.joined_tree.specs.Parts.{row_items, store_items, read_items, goes_expr, begun_expr};
 
 use crate::clock::clock_statement;
 use crate::pointers::{add_slot_wires, input_expression};
@@ -21,57 +21,16 @@ use crate::registers::{
     add_base, add_field_registers, add_fork_top, add_fork_wires, add_found_registers, add_held,
     add_inputs, add_pointer_parts, add_pointer_registers, add_store, add_wire,
 };
-use crate::said::{add_less, add_less_product, add_place_said};
 use bumpalo::Bump;
 use joined_data::{Row, Side, Slot, found_rows, has_product};
 use joined_fields::{Field, Group, Widths, all_slots, find_statement, row_fields, table_widths};
 use joined_fixed::{
-    add_busy, add_busy_product, add_clock_said, add_count_wires, add_find_said, add_flags,
-    add_item, add_late, add_lists_said, add_meets, add_met, add_numbers_said, add_ports,
-    add_ports_said, add_product, add_quarters, add_read_said, add_rest_flags, add_rights,
-    add_unit_said, put_all, put_cat, put_name, put_pick, put_sized, resets,
+    add_clock_said, add_count_wires, add_find_said, add_item, add_less, add_lists_said,
+    add_numbers_said, add_place_said, add_ports, add_ports_said, add_read_said, add_rest_flags,
+    add_unit, add_unit_wires, put_all, put_cat, put_name, put_pick, put_sized, resets,
 };
 use std::alloc::{AllocError, Global};
 use verilog_tree::{Expression, Item};
-
-/// Appends the registers of a product, if there is one.
-fn add_product_if<'a>(items: &mut Vec<Item<'a>>, product: bool) -> Result<(), AllocError>
-    ensures { OnOk result (map item_of items.new.items ≡ map item_of items.old.items ++ product_parts product) }
-{
-    if product { add_product(items) } else { Ok(()) }
-}
-
-/// Appends the registers of the unit.
-fn add_unit<'a>(items: &mut Vec<Item<'a>>, product: bool) -> Result<(), AllocError>
-    ensures { OnOk result (map item_of items.new.items ≡ map item_of items.old.items ++ unit_registers product) }
-{
-    add_unit_said(items)?;
-    add_quarters(items)?;
-    add_flags(items)?;
-    add_product_if(items, product)
-}
-
-/// Appends whether a number is made still.
-fn add_busy_of<'a>(items: &mut Vec<Item<'a>>, product: bool) -> Result<(), AllocError>
-    ensures { OnOk result (map item_of items.new.items ≡ map item_of items.old.items ++ busy_wires product) }
-{
-    if product {
-        add_busy_product(items)
-    } else {
-        add_busy(items)
-    }
-}
-
-/// Appends the wires of the unit.
-fn add_unit_wires<'a>(items: &mut Vec<Item<'a>>, product: bool) -> Result<(), AllocError>
-    ensures { OnOk result (map item_of items.new.items ≡ map item_of items.old.items ++ unit_wires product) }
-{
-    add_meets(items)?;
-    add_rights(items)?;
-    add_met(items)?;
-    add_late(items)?;
-    add_busy_of(items, product)
-}
 
 /// An operand, or what a product adds.
 fn put_begun<'a>(
@@ -93,17 +52,6 @@ fn put_begun<'a>(
     }
 }
 
-/// Appends whether a difference is wanted.
-fn add_less_of<'a>(items: &mut Vec<Item<'a>>, product: bool) -> Result<(), AllocError>
-    ensures { OnOk result (map item_of items.new.items ≡ map item_of items.old.items ++ less_wires product) }
-{
-    if product {
-        add_less_product(items)
-    } else {
-        add_less(items)
-    }
-}
-
 /// Appends both operands.
 #[tactic(auto, using(crate::proofs::Whole::operands_are))]
 fn add_operands<'a>(
@@ -122,7 +70,7 @@ fn add_operands<'a>(
     let second = input_expression(alloc, bump, Side::Second, rows)?;
     let y = put_begun(bump, product, b"factor", second)?;
     add_wire(items, 65, b"second", y)?;
-    add_less_of(items, product)
+    add_less(items, product)
 }
 
 /// Appends ports and the row's registers.

@@ -1,11 +1,11 @@
 //! The wires of slots and operands.
 
 ghost use Rattle.std.specs.Prelude.{◌≡◌, ◌≤◌, ◌<◌, ◌+◌, ◌-◌, ◌++◌, ◌^◌, [], ◌∷◌, OnOk, IfOk, length, map};
-ghost use Rattle.verilog_tree.specs.Tree.{cat, count, name, part, pick, same, sized, test};
+ghost use Rattle.verilog_tree.specs.Tree.{cat, name, same, sized};
 ghost use Rattle.verilog_tree.specs.Views.{expr_of, item_of};
 ghost use Rattle.joined_module.specs.Names.{held_name};
 ghost use Rattle.joined_module.specs.Fields.{source_expr, picked, sources_exprs, slot_expr, operand_expr, operands_exprs, input_expr};
-ghost use Rattle.joined_module.specs.Fields.{kinds_at, by_field};
+ghost use Rattle.joined_module.specs.Fields.{by_field};
 ghost use Rattle.joined_module.specs.Module.{slot_wires};
 ghost use Rattle.joined_data.specs.Views.{origin_view, operand_view, row_view};
 ghost use Rattle.joined_data.specs.Figures.{slot_view, input_view};

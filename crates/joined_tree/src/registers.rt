@@ -2,7 +2,7 @@
 
 ghost use Rattle.std.specs.Prelude.{◌≡◌, ◌≤◌, ◌<◌, ◌+◌, ◌*◌, ◌-◌, ◌++◌, ◌^◌, [], ◌∷◌, max, OnOk, IfOk, map};
 ghost use Rattle.verilog_tree.specs.Names.{text_of};
-ghost use Rattle.verilog_tree.specs.Tree.{count, part, reg, upto, wire, input};
+ghost use Rattle.verilog_tree.specs.Tree.{count, part, wire};
 ghost use Rattle.verilog_tree.specs.Views.{expr_of, item_of};
 ghost use Rattle.joined_module.specs.Fields.{vector_wide};
 ghost use Rattle.joined_module.specs.Module.{field_registers, found_registers, pointer_registers, pointer_parts, pointers_above};
@@ -13,13 +13,13 @@ ghost use Rattle.joined_fields.specs.Views.{field_view, group_name, widths_view,
 ghost use Rattle.joined_tree.specs.Parts.{cell_registers, fork_registers, fork_top_wire, base_wires, fork_wires, less_one};
 
 use crate::pointers::put_grouped;
-use crate::said::{
-    add_cells_said, add_forks_said, add_store_rest, base_expression, keeps_at_expression,
-    next_top_expression, reads_fork_expression, saved_top_expression,
-};
 use bumpalo::Bump;
 use joined_fields::{Field, Group, Widths, cell_width, fork_width, grouped, joined, vector_wide};
-use joined_fixed::{add_item, put_cat, put_expression, put_name, put_sized};
+use joined_fixed::{
+    add_cells_said, add_forks_said, add_item, add_store_rest, base_expression, keeps_at_expression,
+    next_top_expression, put_cat, put_expression, put_name, put_sized, reads_fork_expression,
+    saved_top_expression,
+};
 use std::alloc::{AllocError, Global};
 use verilog_tree::{Expression, Extent, Item, Operation, Range};
 

@@ -3,7 +3,7 @@ use Rattle.std.proofs.lemmas.Result.{IfOk-equal}
 use Rattle.verilog_tree.specs.Views.{item_of}
 use Rattle.joined_module.specs.Module.{store_registers}
 use Rattle.joined_fields.specs.Views.{widths_view}
-use Rattle.joined_tree.specs.Parts.{store_rest}
+use Rattle.joined_fixed.specs.Parts.{store_rest}
 use Rattle.joined_tree.proofs.Whole.{store_made}
 use Rattle.joined_tree.proofs.registers.add_store.Goals as goal
 
