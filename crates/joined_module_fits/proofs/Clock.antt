@@ -1,50 +1,147 @@
 -- The block of the clock is right: each register and each memory that it assigns to is one, it names what is declared, and it shares
 -- nothing with the block that finds a row.
-use Rattle.std.proofs.Common.{◌≡◌, ◌<◌, ◌≤◌, ◌+◌, ◌-◌, ◌++◌, ℕ, zero, suc, Bool, true, false, ◌&&◌, List, [], ◌∷◌, refl, subst, sym}
-use Rattle.std.proofs.Common.{◌∙◌, arith, ⊎_elim}
+use Rattle.std.proofs.Common.{◌≡◌, ◌++◌, Bool, true, false, not, ◌&&◌, ◌||◌, List, [], ◌∷◌, refl, ap, ◌∙◌, ◌<◌, ◌≤◌, ◌+◌, ◌-◌, ℕ, zero, suc}
+use Rattle.std.proofs.Common.{subst, sym, arith}
 use Rattle.std.specs.Prelude.{nat_lt}
-use Rattle.std.proofs.lemmas.Bool.{and_from, lt-ltb, cases_eq}
-use Rattle.std.proofs.lemmas.List.{append-nil}
+use Rattle.std.proofs.lemmas.Bool.{and_parts, and_from, ltb-true, lt-ltb}
 use Prim.Native.String.{String}
-use Rattle.joined_core.specs.Circuit.{Room}
-use Rattle.verilog_tree.specs.Tree.{count, plus, both, one_of, Expr, num, sized, name, part, word, cat, two, logic, none, word_at}
-use Rattle.verilog_tree.specs.Tree.{Stmt, skip, put, seq, branch, Width, one, upto, wide}
-use Rattle.verilog_tree.specs.WellFormed.{Kind, Entry, a_wire, an_input, of_kind, vector, selects, register, is_memory, is_clock, kind_of}
-use Rattle.verilog_tree.specs.WellFormed.{has_width, expr_ok, stmt_ok, items_ok, sets_first, targets, apart}
+use Rattle.verilog_tree.specs.WellFormed.{is_memory, expr_ok, exprs_ok, said_ok, arms_ok, member, Entry, of_kind, register, apart}
+use Rattle.verilog_tree.specs.WellFormed.{target_ok, stmt_ok, targets, Kind, vector, selects, is_clock, kind_of, has_width, items_ok}
+use Rattle.verilog_tree.specs.WellFormed.{sets_first}
+use lib.Text.{eqt}
+use Rattle.verilog_tree.specs.Tree.{Expr, Target, whole, word_at, Stmt, skip, put, seq, branch, cases, Arms, otherwise, arm, count, plus}
+use Rattle.verilog_tree.specs.Tree.{both, one_of, num, sized, name, part, word, cat, two, logic, none, Width, one, upto, wide}
 use Rattle.circuit_module.specs.Fixed.{set, block}
+use Rattle.verilog_tree.proofs.Own.{same_name}
+use Rattle.joined_module_fits.proofs.Names.{class, and_on, own}
+use Rattle.joined_module_fits.proofs.Own.{SameEnv, own_stmt, stmt_same, own_expr, expr_same}
+use Rattle.joined_module_fits.proofs.Groups.{AllNames, AllKnown, names_of, knows, group_at}
+use Rattle.joined_module_fits.proofs.Counted.{not_among, choice_fields, choices_group, founds_names}
+use Rattle.std.proofs.lemmas.List.{append-nil}
+use Rattle.joined_core.specs.Circuit.{Room}
 use Rattle.joined_module.specs.Names.{arg_name, held_name, sig_name, box_name, next_sig_name, next_box_name, open_box_name, new_word_name}
 use Rattle.joined_module.specs.Names.{found}
 use Rattle.joined_module.specs.Rows.{ModuleRow}
-use Rattle.joined_module.specs.Fields.{Field, Slot, slots_from, sig_slot, box_slot, open_slot, word_slot, looked_slot, all_slots}
-use Rattle.joined_module.specs.Fields.{row_fields, sig_count, box_count, fork_count, word_count}
-use Rattle.joined_module.specs.Ports.{arg_inputs, held_sets}
+use Rattle.joined_module.specs.Fields.{Field, sig_slot, box_slot, open_slot, word_slot, row_fields, sig_count, box_count, fork_count}
+use Rattle.joined_module.specs.Fields.{word_count}
+use Rattle.joined_module.specs.Ports.{held_sets}
 use Rattle.joined_module.specs.Unit.{unit_stmt}
-use Rattle.joined_module.specs.Module.{Widths, widths, pointers_above, pointers_vector, slot_wires, field_registers, found_registers}
-use Rattle.joined_module.specs.Module.{find_stmt, zero_stmt_of, fetch_sets, fetch_stmt, list_sets, open_stmt, read_fork, read_answer, now}
-use Rattle.joined_module.specs.Module.{fork_stmt, no_room_expr, value_stmt, count_stmt, act_stmt, go_stmt, reset_stmt, joined_clock_stmt}
-use Rattle.joined_module.specs.Module.{clock_items}
-use Rattle.joined_module_fits.proofs.Names.{own, class}
-use Rattle.joined_module_fits.proofs.Own.{SameEnv, own_stmt, own_expr, expr_same}
-use Rattle.joined_module_fits.proofs.Groups.{AllKnown, AllNames, names_of}
-use Rattle.joined_module_fits.proofs.Counted.{choice_fields, choices_group, founds_names}
+use Rattle.joined_module.specs.Module.{Widths, widths, pointers_above, pointers_vector, field_registers, found_registers, find_stmt}
+use Rattle.joined_module.specs.Module.{zero_stmt_of, fetch_sets, fetch_stmt, list_sets, open_stmt, read_fork, read_answer, now, fork_stmt}
+use Rattle.joined_module.specs.Module.{no_room_expr, value_stmt, count_stmt, act_stmt, go_stmt, reset_stmt, joined_clock_stmt, clock_items}
 use Rattle.joined_module_fits.proofs.Exprs.{positive}
 use Rattle.joined_module_fits.proofs.Found.{register_kind, sets_first_is}
-use Rattle.joined_module_fits.proofs.Stmts.{Good, AllGood, good_skip, good_seq, good_branch, good_block, good_own, good_set, good_put}
-use Rattle.joined_module_fits.proofs.Stmts.{low, low_apart}
-use Rattle.joined_module_fits.proofs.Layers.{layers, firsts}
-use Rattle.joined_module_fits.proofs.States.{Asked, W, fs, e20, f20, F20, s20, in20, args20, choices20, sigs20, boxes20, held20, slots20}
-use Rattle.joined_module_fits.proofs.States.{founds20, founds_named_is, looked20, drop_known, take_known, next_up, reg_known, held_known}
-use Rattle.joined_module_fits.proofs.States.{front_right, ds20}
+use Rattle.joined_module_fits.proofs.States.{layers, firsts, Asked, at_both, F, e, g, s18, reg_known, held_known, arg_known, slot_known}
+use Rattle.joined_module_fits.proofs.States.{founds_named_is, slots_are, front_right, ds20}
 
--- ---- wires of slots by number
+-- ---- more may be assigned to
 
-slot_known : (E : List Entry) (p t : ℕ) (rows : List ModuleRow) (f : ℕ → Slot) (i n : ℕ) → AllKnown E (slot_wires p t rows
-    (slots_from f i n)) →
-    (P : ℕ → Type 0) → ((i : ℕ) → ((p : Kind → Bool) → of_kind p E (f i).title ≡ p a_wire) → P i) → (j : ℕ) → i ≤ j → j < i + n → P j
-slot_known E p t rows f i zero h P g j l m = absurd (omega (arith, l, m))
-slot_known E p t rows f i (suc n) h P g j l m =
-    ⊎_elim (λ (e : i ≡ j). subst P e (g i h.0))
-    (λ d. slot_known E p t rows f (suc i) n h.1 P g j (next_up i j l d) (omega (arith, m))) (cases_eq i j)
+pub member_right : (x : String) (xs ys : List String) → member x ys ≡ true → member x (xs ++ ys) ≡ true
+member_right x [] ys h = h
+member_right x (z ∷ xs) ys h = go (eqt z x) (member_right x xs ys h)
+  where
+    go : (b : Bool) → member x (xs ++ ys) ≡ true → (b || member x (xs ++ ys)) ≡ true
+    go true g = refl
+    go false g = g
+
+pub member_left : (x : String) (xs ys : List String) → member x xs ≡ true → member x (xs ++ ys) ≡ true
+member_left x [] ys h = absurd cc
+member_left x (z ∷ xs) ys h = go (eqt z x) (member_left x xs ys) h
+  where
+    go : (b : Bool) → (member x xs ≡ true → member x (xs ++ ys) ≡ true) → (b || member x xs) ≡ true → (b || member x (xs ++ ys)) ≡ true
+    go true ih g = refl
+    go false ih g = ih g
+
+module _ (E : List Entry) (xs ys : List String) (w : (x : String) → member x xs ≡ true → member x ys ≡ true) where
+  target_more : (t : Target) → target_ok E xs t ≡ true → target_ok E ys t ≡ true
+  target_more (whole x) h = and_on h (λ a. a) (w x)
+  target_more (word_at m e) h =
+      let (a, b) = and_parts (of_kind is_memory E m) (member m xs && expr_ok E e) h in
+      let (c, d) = and_parts (member m xs) (expr_ok E e) b in
+      and_from _ _ a (and_from _ _ (w m c) d)
+
+  mutual
+    pub stmt_more : (s : Stmt) → stmt_ok E xs s ≡ true → stmt_ok E ys s ≡ true
+    stmt_more skip h = refl
+    stmt_more (put t e) h = and_on h (target_more t) (λ b. b)
+    stmt_more (seq s t) h = and_on h (stmt_more s) (stmt_more t)
+    stmt_more (branch e s t) h = and_on h (λ a. a) (λ b. and_on b (stmt_more s) (stmt_more t))
+    stmt_more (cases e arms) h = and_on h (λ a. a) (arms_more arms)
+
+    arms_more : (arms : Arms) → arms_ok E xs arms ≡ true → arms_ok E ys arms ≡ true
+    arms_more (otherwise s) h = stmt_more s h
+    arms_more (arm es s c arms) h =
+        let (a, b) = and_parts (exprs_ok E es && (stmt_ok E xs s && said_ok c)) (arms_ok E xs arms) h in
+        let (d, e) = and_parts (exprs_ok E es) (stmt_ok E xs s && said_ok c) a in
+        let (f, g) = and_parts (stmt_ok E xs s) (said_ok c) e in
+        and_from _ _ (and_from _ _ d (and_from _ _ (stmt_more s f) g)) (arms_more arms b)
+
+-- ---- a statement that is right by itself, and assigns to nothing that is found
+
+abbrev pub low : List String → Bool
+low [] = true
+low (x ∷ xs) = nat_lt (class x) 15 && low xs
+
+low_append : (xs ys : List String) → low xs ≡ true → low ys ≡ true → low (xs ++ ys) ≡ true
+low_append [] ys h k = k
+low_append (x ∷ xs) ys h k =
+    let (a, b) = and_parts _ _ h in and_from _ _ a (low_append xs ys b k)
+
+pub low_apart : (xs ds : List String) → low xs ≡ true → AllNames 15 16 ds → apart xs ds ≡ true
+low_apart [] ds h a = refl
+low_apart (x ∷ xs) ds h a =
+    let (b, c) = and_parts _ _ h in
+    and_from _ _ (ap not (not_among 15 16 x (ltb-true (class x) 15 b) ds a)) (low_apart xs ds c a)
+
+pub record Good (E : List Entry) (s : Stmt) : Type 0 where
+  pub right : stmt_ok E (targets s) s ≡ true
+  pub clear : low (targets s) ≡ true
+
+pub good_skip : (E : List Entry) → Good E skip
+good_skip E = record { right = refl; clear = refl }
+
+pub good_seq : (E : List Entry) (s t : Stmt) → Good E s → Good E t → Good E (seq s t)
+good_seq E s t f g = record {
+  right = and_from _ _ (stmt_more E (targets s) (targets s ++ targets t) (λ x h. member_left x (targets s) (targets t) h) s f.right)
+      (stmt_more E (targets t) (targets s ++ targets t) (λ x h. member_right x (targets s) (targets t) h) t g.right);
+  clear = low_append (targets s) (targets t) f.clear g.clear;
+}
+
+pub good_branch : (E : List Entry) (e : Expr) (s t : Stmt) → expr_ok E e ≡ true → Good E s → Good E t → Good E (branch e s t)
+good_branch E e s t h f g = record {
+  right = and_from _ _ h (good_seq E s t f g).right;
+  clear = low_append (targets s) (targets t) f.clear g.clear;
+}
+
+abbrev pub AllGood : List Entry → List Stmt → Type 0
+AllGood E [] = Unit {0}
+AllGood E (s ∷ ss) = Good E s × AllGood E ss
+
+pub good_block : (E : List Entry) (ss : List Stmt) → AllGood E ss → Good E (block ss)
+good_block E [] h = good_skip E
+good_block E (s ∷ []) h = h.0
+good_block E (s ∷ t ∷ ss) h = good_seq E s (block (t ∷ ss)) h.0 (good_block E (t ∷ ss) h.1)
+
+-- own statements are as in another list
+pub good_own : (E F : List Entry) → SameEnv E F → (s : Stmt) → own_stmt s ≡ true → stmt_ok F (targets s) s ≡ true →
+    low (targets s) ≡ true → Good E s
+good_own E F h s o k l = record { right = stmt_same E F h (targets s) s o ∙ k; clear = l }
+
+-- a register is assigned to
+pub good_set : (E : List Entry) (x : String) (e : Expr) → of_kind register E x ≡ true → expr_ok E e ≡ true →
+    nat_lt (class x) 15 ≡ true → Good E (set x e)
+good_set E x e h k l = record {
+  right = and_from _ _ (and_from _ _ h (ap (λ b. b || false) (same_name x))) k;
+  clear = and_from _ _ l refl;
+}
+
+-- or a word
+pub good_put : (E : List Entry) (m : String) (i e : Expr) → of_kind is_memory E m ≡ true → expr_ok E i ≡ true → expr_ok E e ≡ true →
+    nat_lt (class m) 15 ≡ true → Good E (put (word_at m i) e)
+good_put E m i e h j k l = record {
+  right = and_from _ _ (and_from _ _ h (and_from _ _ (ap (λ b. b || false) (same_name m)) j)) k;
+  clear = and_from _ _ l refl;
+}
 
 vector_kind : (w : Width) → vector (kind_of w) ≡ true
 vector_kind one = refl
@@ -79,10 +176,8 @@ module _ (E : List Entry) where
   above_ok : (x : ℕ → String) (m : ℕ) → ((i : ℕ) → i < m → of_kind vector E (x i) ≡ true) → (i n : ℕ) → i + n ≤ m → (e : Expr) →
       has_width e ≡ true → expr_ok E e ≡ true → expr_ok E (pointers_above x i n e) ≡ true
   above_ok x m h i zero l e u v = v
-  above_ok x m h i (suc n) l e u v =
-      above_ok x m h (suc i) n (omega (arith, l)) (cat (name (x i)) e) refl
-      (and_from (has_width e) (of_kind vector E (x i) && expr_ok E e) u
-      (and_from (of_kind vector E (x i)) (expr_ok E e) (h i (omega (arith, l))) v))
+  above_ok x m h i (suc n) l e u v = above_ok x m h (suc i) n (omega (arith, l)) (cat (name (x i)) e) refl (and_from _ _ u
+      (and_from _ _ (h i (omega (arith, l))) v))
 
   vector_ok : (x : ℕ → String) (m : ℕ) → ((i : ℕ) → i < m → of_kind vector E (x i) ≡ true) → expr_ok E (pointers_vector x m) ≡ true
   vector_ok x zero h = refl
@@ -99,72 +194,67 @@ module _ (E : List Entry) where
 
   wire_of : (fs : List Field) → AllKnown E (found_registers fs) → Registers fs → AllGood E (fetch_sets fs)
   wire_of [] h r = tt
-  wire_of (f ∷ fs) h r =
-      (good_set E f.title (name (found f.title)) r.0.0 (h.0 vector ∙ vector_kind f.wide) r.0.1, wire_of fs h.1 r.1)
-
-arg_known : (E : List Entry) (j i n : ℕ) → AllKnown E (arg_inputs i n) → i ≤ j → j < i + n → (p : Kind → Bool) →
-    of_kind p E (arg_name j) ≡ p an_input
-arg_known E j i zero h l m p = absurd (omega (arith, l, m))
-arg_known E j i (suc n) h l m p =
-    ⊎_elim (λ (e : i ≡ j). subst (λ k. of_kind p E (arg_name k) ≡ p an_input) e (h.0 p))
-    (λ d. arg_known E j (suc i) n h.1 (next_up i j l d) (omega (arith, m)) p) (cases_eq i j)
+  wire_of (f ∷ fs) h r = (good_set E f.title (name (found f.title)) r.0.0 (h.0 vector ∙ vector_kind f.wide) r.0.1, wire_of fs h.1 r.1)
 
 -- ---- statements that name what stands once alone, with a product and without
 
-unit_right : (W : Widths) (start : ℕ) (rows : List ModuleRow) (n : ℕ) (b : Bool) →
-    (stmt_ok (F20 W start rows n b) (targets (unit_stmt b)) (unit_stmt b) ≡ true)
-    × ((own_stmt (unit_stmt b) ≡ true) × (low (targets (unit_stmt b)) ≡ true))
-unit_right W start rows n true = (refl, (refl, refl))
-unit_right W start rows n false = (refl, (refl, refl))
+abbrev Sure : List Entry → Stmt → Type 0
+Sure F s = (stmt_ok F (targets s) s ≡ true) × ((own_stmt s ≡ true) × (low (targets s) ≡ true))
 
-zero_right : (W : Widths) (start : ℕ) (rows : List ModuleRow) (n : ℕ) (b : Bool) →
-    (stmt_ok (F20 W start rows n b) (targets (zero_stmt_of b)) (zero_stmt_of b) ≡ true)
-    × ((own_stmt (zero_stmt_of b) ≡ true) × (low (targets (zero_stmt_of b)) ≡ true))
-zero_right W start rows n true = (refl, (refl, refl))
-zero_right W start rows n false = (refl, (refl, refl))
+unit_right : (W : Widths) (start : ℕ) (rows : List ModuleRow) (n : ℕ) (b : Bool) → Sure (F W start rows n b 18) (unit_stmt b)
+unit_right W start rows n = at_both (λ b. Sure (F W start rows n b 18) (unit_stmt b)) (refl, (refl, refl)) (refl, (refl, refl))
 
-value_right : (W : Widths) (start : ℕ) (rows : List ModuleRow) (n : ℕ) (b : Bool) →
-    (stmt_ok (F20 W start rows n b) (targets (value_stmt b)) (value_stmt b) ≡ true)
-    × ((own_stmt (value_stmt b) ≡ true) × (low (targets (value_stmt b)) ≡ true))
-value_right W start rows n true = (refl, (refl, refl))
-value_right W start rows n false = (refl, (refl, refl))
+zero_right : (W : Widths) (start : ℕ) (rows : List ModuleRow) (n : ℕ) (b : Bool) → Sure (F W start rows n b 18) (zero_stmt_of b)
+zero_right W start rows n = at_both (λ b. Sure (F W start rows n b 18) (zero_stmt_of b)) (refl, (refl, refl)) (refl, (refl, refl))
 
-right20 : (W : Widths) (start : ℕ) (rows : List ModuleRow) (n : ℕ) (b : Bool) (s : Stmt) →
-    stmt_ok (F20 W start rows n true) (targets s) s ≡ true → stmt_ok (F20 W start rows n false) (targets s) s ≡ true →
-    stmt_ok (F20 W start rows n b) (targets s) s ≡ true
-right20 W start rows n true s h k = h
-right20 W start rows n false s h k = k
+value_right : (W : Widths) (start : ℕ) (rows : List ModuleRow) (n : ℕ) (b : Bool) → Sure (F W start rows n b 18) (value_stmt b)
+value_right W start rows n = at_both (λ b. Sure (F W start rows n b 18) (value_stmt b)) (refl, (refl, refl)) (refl, (refl, refl))
 
-expr20 : (W : Widths) (start : ℕ) (rows : List ModuleRow) (n : ℕ) (b : Bool) (e : Expr) →
-    expr_ok (F20 W start rows n true) e ≡ true → expr_ok (F20 W start rows n false) e ≡ true → expr_ok (F20 W start rows n b) e ≡ true
-expr20 W start rows n true e h k = h
-expr20 W start rows n false e h k = k
+-- statements of own names alone that are right, with a product and without
+abbrev sure : List Entry → List Entry → List Stmt → Bool
+sure F H [] = true
+sure F H (s ∷ ss) = (stmt_ok F (targets s) s && stmt_ok H (targets s) s) && ((own_stmt s && low (targets s)) && sure F H ss)
+
+-- registers of own names, with a product and without
+abbrev flags : List Entry → List Entry → List Field → Bool
+flags F H [] = true
+flags F H (f ∷ fs) =
+    (of_kind register F f.title && of_kind register H f.title) && ((own f.title && nat_lt (class f.title) 15) && flags F H fs)
 
 module _ (rows : List ModuleRow) (z : Room) (start n : ℕ) (b : Bool) (A : Asked rows z start n) where
   abbrev V : Widths
   V = widths rows z
 
   abbrev E : List Entry
-  E = e20 rows z start n b A
+  E = e rows z start n b A 18
 
-  abbrev F : List Entry
-  F = f20 rows z start n b A
+  abbrev Fs : Bool → List Entry
+  Fs c = F V start rows n c 18
 
-  same20 : SameEnv E F
-  same20 = (s20 rows z start n b A).same
+  same20 : SameEnv E (Fs b)
+  same20 = (s18 rows z start n b A).same
 
   -- what stands once
-  once : (p : Kind → Bool) (x : String) → own x ≡ true → of_kind p (F20 V start rows n true) x ≡ true →
-      of_kind p (F20 V start rows n false) x ≡ true → of_kind p E x ≡ true
-  once p x o h k = same20.kind p x o ∙ in20 V start rows n b p x h k
+  once : (p : Kind → Bool) (x : String) → own x ≡ true → of_kind p (Fs true) x ≡ true → of_kind p (Fs false) x ≡ true → of_kind p E x ≡ true
+  once p x o h k = same20.kind p x o ∙ at_both (λ b. of_kind p (Fs b) x ≡ true) h k b
 
-  by_own : (s : Stmt) → own_stmt s ≡ true → stmt_ok (F20 V start rows n true) (targets s) s ≡ true →
-      stmt_ok (F20 V start rows n false) (targets s) s ≡ true → low (targets s) ≡ true → Good E s
-  by_own s o h k l = good_own E F same20 s o (right20 V start rows n b s h k) l
+  by_owns : (ss ts : List Stmt) → sure (Fs true) (Fs false) ss ≡ true → AllGood E ts → AllGood E (ss ++ ts)
+  by_owns [] ts h k = k
+  by_owns (s ∷ ss) ts h k =
+      let (a, r) = and_parts (stmt_ok (Fs true) (targets s) s && stmt_ok (Fs false) (targets s) s) _ h in
+      let (c, d) = and_parts (stmt_ok (Fs true) (targets s) s) _ a in
+      let (f, g) = and_parts (own_stmt s && low (targets s)) _ r in
+      let (o, l) = and_parts (own_stmt s) (low (targets s)) f in
+      (good_own E (Fs b) same20 s o (at_both (λ b. stmt_ok (Fs b) (targets s) s ≡ true) c d b) l, by_owns ss ts g k)
 
-  named : (e : Expr) → own_expr e ≡ true → expr_ok (F20 V start rows n true) e ≡ true → expr_ok (F20 V start rows n false) e ≡ true →
-      expr_ok E e ≡ true
-  named e o h k = expr_same E F same20 e o ∙ expr20 V start rows n b e h k
+  by_own : (s : Stmt) → sure (Fs true) (Fs false) (s ∷ []) ≡ true → Good E s
+  by_own s h = (by_owns (s ∷ []) [] h tt).0
+
+  named : (e : Expr) → own_expr e ≡ true → expr_ok (Fs true) e ≡ true → expr_ok (Fs false) e ≡ true → expr_ok E e ≡ true
+  named e o h k = expr_same E (Fs b) same20 e o ∙ at_both (λ b. expr_ok (Fs b) e ≡ true) h k b
+
+  layer : (k : ℕ) → AllKnown E (group_at (g rows z start n b A 18) k)
+  layer k = knows E (g rows z start n b A 18) k (s18 rows z start n b A).known
 
   -- numbers that have a bit at least
   place_some : nat_lt 0 V.place ≡ true
@@ -173,115 +263,60 @@ module _ (rows : List ModuleRow) (z : Room) (start n : ℕ) (b : Bool) (A : Aske
   depth_some : nat_lt 0 V.depth ≡ true
   depth_some = positive z.forks
 
-  -- wires of slots
-  slots_of : AllKnown E (slot_wires V.place V.tag rows (all_slots rows))
-  slots_of = slots20 rows z start n b A
-
-  behind_sigs : AllKnown E (slot_wires V.place V.tag rows (slots_from box_slot 0 (box_count rows) ++
-      (slots_from open_slot 0 (fork_count rows) ++ (slots_from word_slot 0 (word_count rows) ++ looked_slot ∷ []))))
-  behind_sigs = drop_known E V.place V.tag rows (slots_from sig_slot 0 (sig_count rows)) _ slots_of
-
-  behind_boxes : AllKnown E (slot_wires V.place V.tag rows (slots_from open_slot 0 (fork_count rows) ++
-      (slots_from word_slot 0 (word_count rows) ++ looked_slot ∷ [])))
-  behind_boxes = drop_known E V.place V.tag rows (slots_from box_slot 0 (box_count rows)) _ behind_sigs
-
-  behind_opens : AllKnown E (slot_wires V.place V.tag rows (slots_from word_slot 0 (word_count rows) ++ looked_slot ∷ []))
-  behind_opens = drop_known E V.place V.tag rows (slots_from open_slot 0 (fork_count rows)) _ behind_boxes
-
-  next_sig_is : (i : ℕ) → i < V.sigs → of_kind vector E (next_sig_name i) ≡ true
-  next_sig_is i l =
-      slot_known E V.place V.tag rows sig_slot 0 (sig_count rows)
-      (take_known E V.place V.tag rows (slots_from sig_slot 0 (sig_count rows)) _ slots_of)
-      (λ i. of_kind vector E (next_sig_name i) ≡ true) (λ i h. h vector) i (omega arith) (omega (arith, l))
-
-  next_box_is : (i : ℕ) → i < V.boxes → of_kind vector E (next_box_name i) ≡ true
-  next_box_is i l =
-      slot_known E V.place V.tag rows box_slot 0 (box_count rows)
-      (take_known E V.place V.tag rows (slots_from box_slot 0 (box_count rows)) _ behind_sigs)
-      (λ i. of_kind vector E (next_box_name i) ≡ true) (λ i h. h vector) i (omega arith) (omega (arith, l))
-
-  open_box_is : (i : ℕ) → i < V.saved → of_kind vector E (open_box_name i) ≡ true
-  open_box_is i l =
-      slot_known E V.place V.tag rows open_slot 0 (fork_count rows)
-      (take_known E V.place V.tag rows (slots_from open_slot 0 (fork_count rows)) _ behind_boxes)
-      (λ i. of_kind vector E (open_box_name i) ≡ true) (λ i h. h vector) i (omega arith) (omega (arith, l))
-
-  new_word_is : (i : ℕ) → i < V.words → of_kind vector E (new_word_name i) ≡ true
-  new_word_is i l =
-      slot_known E V.place V.tag rows word_slot 0 (word_count rows)
-      (take_known E V.place V.tag rows (slots_from word_slot 0 (word_count rows)) _ behind_opens)
-      (λ i. of_kind vector E (new_word_name i) ≡ true) (λ i h. h vector) i (omega arith) (omega (arith, l))
-
   -- the forks
   open_good : Good E (open_stmt V)
-  open_good =
-      good_seq E (put (word_at "forks" (name "depth")) (pointers_above open_box_name 0 V.saved (name "saved_top")))
+  open_good = good_seq E (put (word_at "forks" (name "depth")) (pointers_above open_box_name 0 V.saved (name "saved_top")))
       (set "depth" (two plus (name "depth") (sized V.depth 1)))
       (good_put E "forks" (name "depth") (pointers_above open_box_name 0 V.saved (name "saved_top")) (once is_memory "forks" refl refl refl)
       (once vector "depth" refl refl refl)
-      (above_ok E open_box_name V.saved open_box_is 0 V.saved (omega arith) (name "saved_top") refl
+      (above_ok E open_box_name V.saved (λ i l. slot_known E V.place V.tag rows open_slot (fork_count rows)
+      (slots_are rows z start n b A E (layer 5)).1.1.0 i l vector) 0 V.saved (omega arith) (name "saved_top") refl
       (once vector "saved_top" refl refl refl))
-      refl)
-      (good_set E "depth" (two plus (name "depth") (sized V.depth 1)) (once register "depth" refl refl refl)
-      (and_from (of_kind vector E "depth") (nat_lt 0 V.depth) (once vector "depth" refl refl refl) depth_some) refl)
+      refl) (good_set E "depth" (two plus (name "depth") (sized V.depth 1)) (once register "depth" refl refl refl)
+      (and_from _ _ (once vector "depth" refl refl refl) depth_some) refl)
 
   fork_good : Good E (fork_stmt V)
   fork_good =
-      good_block E (branch (now "opens") (open_stmt V) read_fork ∷
-      branch (now "keeps") (put (word_at "answers" (name "keeps_at")) (name "second")) read_answer ∷
+      let rest = branch (now "keeps") (put (word_at "answers" (name "keeps_at")) (name "second")) read_answer ∷
       branch (now "closes") (set "depth" (name "innermost")) skip ∷
-      set "fresh" (logic both (name "acts") (logic one_of (name "opens") (name "keeps"))) ∷ []) (
-        good_branch E (now "opens") (open_stmt V) read_fork (named (now "opens") refl refl refl) open_good
-            (by_own read_fork refl refl refl refl),
-        (
-          by_own (branch (now "keeps") (put (word_at "answers" (name "keeps_at")) (name "second")) read_answer) refl refl refl refl,
-          (
-            by_own (branch (now "closes") (set "depth" (name "innermost")) skip) refl refl refl refl,
-            (by_own (set "fresh" (logic both (name "acts") (logic one_of (name "opens") (name "keeps")))) refl refl refl refl, tt),
-          ),
-        ),
+      set "fresh" (logic both (name "acts") (logic one_of (name "opens") (name "keeps"))) ∷ [] in
+      good_block E (branch (now "opens") (open_stmt V) read_fork ∷ rest) (
+        good_branch E (now "opens") (open_stmt V) read_fork (named (now "opens") refl refl refl) open_good (by_own read_fork refl),
+        by_owns rest [] refl tt,
       )
 
   -- what the row makes
   room_ok : expr_ok E (no_room_expr V) ≡ true
-  room_ok =
-      and_from (of_kind vector E "none") _ (once vector "none" refl refl refl)
-      (and_from (of_kind vector E "makes" && (of_kind vector E "base" && nat_lt 0 V.place)) _
-      (and_from (of_kind vector E "makes") (of_kind vector E "base" && nat_lt 0 V.place) (once vector "makes" refl refl refl)
-      (and_from (of_kind vector E "base") (nat_lt 0 V.place) (once vector "base" refl refl refl) place_some))
-      (and_from (of_kind vector E "opens") (of_kind vector E "depth" && nat_lt 0 V.depth) (once vector "opens" refl refl refl)
-      (and_from (of_kind vector E "depth") (nat_lt 0 V.depth) (once vector "depth" refl refl refl) depth_some)))
+  room_ok = and_from _ _ (once vector "none" refl refl refl) (and_from _ _ (and_from _ _ (once vector "makes" refl refl refl)
+      (and_from _ _ (once vector "base" refl refl refl) place_some)) (and_from _ _ (once vector "opens" refl refl refl)
+      (and_from _ _ (once vector "depth" refl refl refl) depth_some)))
 
   act_good : Good E (act_stmt V)
   act_good =
-      good_block E (block (list_sets sig_name next_sig_name 0 V.sigs) ∷ block (list_sets box_name next_box_name 0 V.boxes) ∷
-      set "top" (name "next_top") ∷ branch (name "makes") (put (word_at "cells" (name "base"))
-      (pointers_vector new_word_name V.words)) skip ∷
-      branch (name "ends") (set "ended" (num 1)) skip ∷ branch (no_room_expr V) (set "full" (num 1)) skip ∷ []) (
-        good_block E (list_sets sig_name next_sig_name 0 V.sigs) (lists_good E sig_name next_sig_name V.sigs
-            (λ i l. reg_known E (V.place + V.tag) sig_name i 0 V.sigs (sigs20 rows z start n b A) (omega arith) (omega (arith, l)) register)
-            next_sig_is (λ i. refl) 0 V.sigs (omega arith)),
+      let cell = put (word_at "cells" (name "base")) (pointers_vector new_word_name V.words) in
+      let sigs = list_sets sig_name next_sig_name 0 V.sigs in
+      let boxes = list_sets box_name next_box_name 0 V.boxes in
+      let made = branch (name "makes") cell skip in
+      let ends = branch (name "ends") (set "ended" (num 1)) skip in
+      let full = branch (no_room_expr V) (set "full" (num 1)) skip in
+      good_block E (block sigs ∷ block boxes ∷ set "top" (name "next_top") ∷ made ∷ ends ∷ full ∷ []) (
+        good_block E sigs (lists_good E sig_name next_sig_name V.sigs
+            (λ i l. reg_known E (V.place + V.tag) sig_name V.sigs (layer 12) i l register)
+            (λ i l. slot_known E V.place V.tag rows sig_slot (sig_count rows) (slots_are rows z start n b A E (layer 5)).0 i l vector)
+            (λ i. refl) 0 V.sigs (omega arith)),
         (
-          good_block E (list_sets box_name next_box_name 0 V.boxes) (lists_good E box_name next_box_name V.boxes
-              (λ i l. reg_known E (V.place + V.tag) box_name i 0 V.boxes (boxes20 rows z start n b A) (omega arith) (omega
-              (arith, l)) register)
-              next_box_is (λ i. refl) 0 V.boxes (omega arith)),
-          (
-            by_own (set "top" (name "next_top")) refl refl refl refl,
-            (
-              good_branch E (name "makes") (put (word_at "cells" (name "base")) (pointers_vector new_word_name V.words)) skip
-                  (once vector "makes" refl refl refl)
-                  (good_put E "cells" (name "base") (pointers_vector new_word_name V.words) (once is_memory "cells" refl refl refl)
-                  (once vector "base" refl refl refl) (vector_ok E new_word_name V.words new_word_is) refl) (good_skip E),
-              (
-                by_own (branch (name "ends") (set "ended" (num 1)) skip) refl refl refl refl,
-                (
-                  good_branch E (no_room_expr V) (set "full" (num 1)) skip room_ok (by_own (set "full" (num 1)) refl refl refl refl)
-                      (good_skip E),
-                  tt,
-                ),
-              ),
-            ),
+          good_block E boxes (lists_good E box_name next_box_name V.boxes
+              (λ i l. reg_known E (V.place + V.tag) box_name V.boxes (layer 11) i l register)
+              (λ i l. slot_known E V.place V.tag rows box_slot (box_count rows) (slots_are rows z start n b A E (layer 5)).1.0 i l vector)
+              (λ i. refl) 0 V.boxes (omega arith)),
+          by_owns (set "top" (name "next_top") ∷ []) (made ∷ ends ∷ full ∷ []) refl (
+            good_branch E (name "makes") cell skip (once vector "makes" refl refl refl)
+                (good_put E "cells" (name "base") (pointers_vector new_word_name V.words) (once is_memory "cells" refl refl refl)
+                (once vector "base" refl refl refl) (vector_ok E new_word_name V.words
+                (λ i l. slot_known E V.place V.tag rows word_slot (word_count rows) (slots_are rows z start n b A E
+                (layer 5)).1.1.1.0 i l vector)) refl) (good_skip E),
+            by_owns (ends ∷ []) (full ∷ []) refl
+                (good_branch E (no_room_expr V) (set "full" (num 1)) skip room_ok (by_own (set "full" (num 1)) refl) (good_skip E), tt),
           ),
         ),
       )
@@ -289,118 +324,38 @@ module _ (rows : List ModuleRow) (z : Room) (start n : ℕ) (b : Bool) (A : Aske
   go_good : Good E (go_stmt V b)
   go_good =
       let (h, (o, l)) = value_right V start rows n b in
-      good_block E (fork_stmt V ∷ value_stmt b ∷ count_stmt ∷ branch (name "acts") (act_stmt V) skip ∷
-      branch (logic both (name "ended") (none (name "busy"))) (set "done" (num 1)) skip ∷ []) (
+      let ended = branch (logic both (name "ended") (none (name "busy"))) (set "done" (num 1)) skip in
+      let acts = branch (name "acts") (act_stmt V) skip in
+      good_block E (fork_stmt V ∷ value_stmt b ∷ count_stmt ∷ acts ∷ ended ∷ []) (
         fork_good,
         (
-          good_own E F same20 (value_stmt b) o h l,
-          (
-            by_own count_stmt refl refl refl refl,
-            (
-              good_branch E (name "acts") (act_stmt V) skip (once vector "acts" refl refl refl) act_good (good_skip E),
-              (by_own (branch (logic both (name "ended") (none (name "busy"))) (set "done" (num 1)) skip) refl refl refl refl, tt),
-            ),
+          good_own E (Fs b) same20 (value_stmt b) o h l,
+          by_owns (count_stmt ∷ []) (acts ∷ ended ∷ []) refl (
+            good_branch E (name "acts") (act_stmt V) skip (once vector "acts" refl refl refl) act_good (good_skip E),
+            (by_own ended refl, tt),
           ),
         ),
       )
 
   reset_good : Good E (reset_stmt n)
   reset_good =
-      good_block E (set "top" (num 0) ∷ set "depth" (num 0) ∷ set "fresh" (num 0) ∷ set "ended" (num 0) ∷ set "done" (num 0) ∷
-      set "full" (num 0) ∷ set "result" (num 0) ∷ set "moves" (num 0) ∷ set "carried" (num 0) ∷ block (held_sets 0 n) ∷ []) (
-        by_own (set "top" (num 0)) refl refl refl refl,
-        (
-          by_own (set "depth" (num 0)) refl refl refl refl,
-          (
-            by_own (set "fresh" (num 0)) refl refl refl refl,
-            (
-              by_own (set "ended" (num 0)) refl refl refl refl,
-              (
-                by_own (set "done" (num 0)) refl refl refl refl,
-                (
-                  by_own (set "full" (num 0)) refl refl refl refl,
-                  (
-                    by_own (set "result" (num 0)) refl refl refl refl,
-                    (
-                      by_own (set "moves" (num 0)) refl refl refl refl,
-                      (
-                        by_own (set "carried" (num 0)) refl refl refl refl,
-                        (
-                          good_block E (held_sets 0 n) (helds_good E n
-                              (λ i l. held_known E i 0 n (held20 rows z start n b A) (omega arith) (omega (arith, l)) register)
-                              (λ i l. arg_known E i 0 n (args20 rows z start n b A) (omega arith) (omega (arith, l)) vector) 0 n
-                              (omega arith)),
-                          tt,
-                        ),
-                      ),
-                    ),
-                  ),
-                ),
-              ),
-            ),
-          ),
-        ),
-      )
+      let zeros = set "top" (num 0) ∷ set "depth" (num 0) ∷ set "fresh" (num 0) ∷ set "ended" (num 0) ∷ set "done" (num 0) ∷
+      set "full" (num 0) ∷ set "result" (num 0) ∷ set "moves" (num 0) ∷ set "carried" (num 0) ∷ [] in
+      good_block E (zeros ++ (block (held_sets 0 n) ∷ [])) (by_owns zeros (block (held_sets 0 n) ∷ []) refl (
+        good_block E (held_sets 0 n) (helds_good E n (λ i l. held_known E n (layer 10) i l register)
+            (λ i l. arg_known E n (layer 16) i l vector) 0 n (omega arith)),
+        tt,
+      ))
 
   -- each field's register takes what was found
-  flags_are : Registers E (firsts 18 (row_fields rows))
-  flags_are = (
-    flag "none" refl refl refl refl,
-    (
-      flag "to" refl refl refl refl,
-      (
-        flag "counts" refl refl refl refl,
-        (
-          flag "waits" refl refl refl refl,
-          (
-            flag "later" refl refl refl refl,
-            (
-              flag "tests" refl refl refl refl,
-              (
-                flag "needs" refl refl refl refl,
-                (
-                  flag "ends" refl refl refl refl,
-                  (
-                    flag "makes" refl refl refl refl,
-                    (
-                      flag "opens" refl refl refl refl,
-                      (
-                        flag "above" refl refl refl refl,
-                        (
-                          flag "keeps" refl refl refl refl,
-                          (
-                            flag "closes" refl refl refl refl,
-                            (
-                              flag "touches" refl refl refl refl,
-                              (
-                                flag "takes" refl refl refl refl,
-                                (
-                                  flag "computes" refl refl refl refl,
-                                  (
-                                    flag "subtracts" refl refl refl refl,
-                                    (flag "multiplies" refl refl refl refl, tt),
-                                  ),
-                                ),
-                              ),
-                            ),
-                          ),
-                        ),
-                      ),
-                    ),
-                  ),
-                ),
-              ),
-            ),
-          ),
-        ),
-      ),
-    ),
-  )
-    where
-      flag : (x : String) → own x ≡ true → of_kind register (F20 V start rows n true) x ≡ true →
-          of_kind register (F20 V start rows n false) x ≡ true → nat_lt (class x) 15 ≡ true →
-          (of_kind register E x ≡ true) × (nat_lt (class x) 15 ≡ true)
-      flag x o h k l = (once register x o h k, l)
+  flags_are : (fs : List Field) → flags (Fs true) (Fs false) fs ≡ true → Registers E fs
+  flags_are [] h = tt
+  flags_are (f ∷ fs) h =
+      let (a, r) = and_parts (of_kind register (Fs true) f.title && of_kind register (Fs false) f.title) _ h in
+      let (c, d) = and_parts (of_kind register (Fs true) f.title) _ a in
+      let (m, k) = and_parts (own f.title && nat_lt (class f.title) 15) _ r in
+      let (o, l) = and_parts (own f.title) _ m in
+      ((once register f.title o c d, l), flags_are fs k)
 
   others_are : (gs : List Field) → AllKnown E (field_registers gs) → AllNames 2 5 (names_of (field_registers gs)) → Registers E gs
   others_are [] h a = tt
@@ -410,30 +365,27 @@ module _ (rows : List ModuleRow) (z : Room) (start n : ℕ) (b : Bool) (A : Aske
   )
 
   all_registers : Registers E (row_fields rows)
-  all_registers =
-      registers_append E (firsts 18 (row_fields rows)) (choice_fields rows) flags_are
-      (others_are (choice_fields rows) (choices20 rows z start n b A) (choices_group rows A.sigs A.boxes A.saved A.words).named)
+  all_registers = registers_append E (firsts 18 (row_fields rows)) (choice_fields rows) (flags_are (firsts 18 (row_fields rows)) refl)
+      (others_are (choice_fields rows) (layer 14) (choices_group rows A.sigs A.boxes A.saved A.words).named)
 
   fetch_good : Good E (fetch_stmt V (row_fields rows))
   fetch_good =
       let cell = set "cell_has" (word "cells" (part "looked" (count (V.place + V.tag - 1)) (count V.tag))) in
       good_branch E (logic one_of (name "rst") (none (name "rests"))) (seq cell (block (fetch_sets (row_fields rows)))) skip
-      (named (logic one_of (name "rst") (none (name "rests"))) refl refl refl)
-      (good_seq E cell (block (fetch_sets (row_fields rows)))
+      (named (logic one_of (name "rst") (none (name "rests"))) refl refl refl) (good_seq E cell (block (fetch_sets (row_fields rows)))
       (good_set E "cell_has" (word "cells" (part "looked" (count (V.place + V.tag - 1)) (count V.tag)))
-      (once register "cell_has" refl refl refl)
-      (and_from (of_kind is_memory E "cells") (of_kind selects E "looked" && true) (once is_memory "cells" refl refl refl)
-      (and_from (of_kind selects E "looked") true (looked20 rows z start n b A selects) refl)) refl)
-      (good_block E (fetch_sets (row_fields rows)) (wire_of E (row_fields rows) (founds20 rows z start n b A) all_registers))) (good_skip E)
+      (once register "cell_has" refl refl refl) (and_from _ _ (once is_memory "cells" refl refl refl)
+      (and_from _ _ ((slots_are rows z start n b A E (layer 5)).1.1.1.1 selects) refl)) refl)
+      (good_block E (fetch_sets (row_fields rows)) (wire_of E (row_fields rows) (layer 3) all_registers))) (good_skip E)
 
   clock_good : Good E (joined_clock_stmt V (row_fields rows) n b)
   clock_good =
       let (h, (o, l)) = unit_right V start rows n b in
       let (h2, (o2, l2)) = zero_right V start rows n b in
       good_block E (unit_stmt b ∷ zero_stmt_of b ∷ fetch_stmt V (row_fields rows) ∷ branch (name "rst") (reset_stmt n) (go_stmt V b) ∷ []) (
-        good_own E F same20 (unit_stmt b) o h l,
+        good_own E (Fs b) same20 (unit_stmt b) o h l,
         (
-          good_own E F same20 (zero_stmt_of b) o2 h2 l2,
+          good_own E (Fs b) same20 (zero_stmt_of b) o2 h2 l2,
           (
             fetch_good,
             (good_branch E (name "rst") (reset_stmt n) (go_stmt V b) (once vector "rst" refl refl refl) reset_good go_good, tt),
@@ -442,8 +394,7 @@ module _ (rows : List ModuleRow) (z : Room) (start n : ℕ) (b : Bool) (A : Aske
       )
 
   founds_apart : AllNames 15 16 (ds20 rows z start n b A)
-  founds_apart =
-      subst (λ xs. AllNames 15 16 xs) (sym (append-nil (sets_first (find_stmt V rows (row_fields rows)))
+  founds_apart = subst (λ xs. AllNames 15 16 xs) (sym (append-nil (sets_first (find_stmt V rows (row_fields rows)))
       ∙ sets_first_is V rows (row_fields rows)))
       (subst (λ xs. AllNames 15 16 xs) (founds_names (row_fields rows)) (founds_named_is rows z start n b A))
 
@@ -451,9 +402,7 @@ module _ (rows : List ModuleRow) (z : Room) (start n : ℕ) (b : Bool) (A : Aske
   clock_ok =
       let s = joined_clock_stmt V (row_fields rows) n b in
       let ds = ds20 rows z start n b A in
-      and_from ((of_kind is_clock E "clk" && apart (targets s) ds) && stmt_ok E (targets s) s) true
-      (and_from (of_kind is_clock E "clk" && apart (targets s) ds) (stmt_ok E (targets s) s)
-      (and_from (of_kind is_clock E "clk") (apart (targets s) ds) (once is_clock "clk" refl refl refl)
+      and_from _ _ (and_from _ _ (and_from _ _ (once is_clock "clk" refl refl refl)
       (low_apart (targets s) ds clock_good.clear founds_apart)) clock_good.right) refl
 
   pub layers_right : items_ok [] [] (layers V start rows n b) ≡ true

@@ -2,37 +2,23 @@
 pub mod Names
 -- what is declared
 pub mod Own
--- groups of names
+-- groups of names, and what is known where they are declared
 pub mod Groups
--- names of slots and fields
-pub mod Titles
--- the groups of the module
+-- names of slots and fields, and the groups of the module
 pub mod Counted
 -- expressions of slots and operands
 pub mod Exprs
--- statements
-pub mod Stmts
--- the block that finds a row
-pub mod Finding
--- it is right
+-- the block that finds a row is right
 pub mod Found
--- the layers of the module
-pub mod Layers
--- what is declared after each
+-- the layers of the module, and what is declared after each
 pub mod States
 -- the block of the clock
 pub mod Clock
 -- what settles is in order
-pub mod Order
--- it is
 pub mod Ordered
--- its limits
+-- the limits of the module
 pub mod Limits
 -- numbers that fit
-pub mod Numbers
--- the module within them
 pub mod Fits
--- each layer
-pub mod Whole
--- the law
+-- each layer within the limits, and the laws
 pub mod Formed
