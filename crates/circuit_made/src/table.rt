@@ -8,7 +8,8 @@ ghost use Rattle.joined_numbers.specs.Ports.{with_ports};
 ghost use Rattle.joined_numbers.specs.Within.{rows_within, starts_within};
 ghost use Rattle.joined_numbers.specs.Runs.{table_of};
 ghost use Rattle.joined_table.specs.Views.{sites_view, entries_view};
-ghost use Rattle.circuit_made.specs.Made.{TableOf, room};
+ghost use Rattle.circuit_meaning.specs.Laws.{most_room};
+ghost use Rattle.circuit_made.specs.Made.{TableOf};
 ghost use Rattle.circuit_made.specs.Views.{made_view};
 
 use bumpalo::Bump;
@@ -60,24 +61,22 @@ fn table_of<'a>(
     })
 }
 
-/// Whether a table fits its module.
+/// Whether a table fits its module, with however many cells and forks.
 fn fits<'a>(
     alloc: Global,
     bump: &'a Bump,
     made: Made<'a>,
-    cells: u32,
-    forks: u32,
     ports: &[u32],
 ) -> Result<bool, AllocError>
-    ensures { IfOk result (λ b. b ≡ module_fits (made_view made.entry) (room cells forks) (length ports.now)) }
+    ensures { IfOk result (λ b. b ≡ module_fits (made_view made.entry) most_room (length ports.now)) }
 {
     table_fits(
         alloc,
         bump,
         made.rows,
         made.start,
-        cells.into(),
-        forks.into(),
+        2147483647,
+        2147483647,
         ports.len() as u64,
     )
 }
@@ -91,18 +90,16 @@ fn fitting_table<'a>(
     ports: &[u32],
     sites: &[SiteAt],
     entries: &[Entry],
-    cells: u32,
-    forks: u32,
 ) -> Result<Option<Made<'a>>, AllocError>
     requires right { right_table (with_ports net.now ports.now) (sites_view sites.now) (entries_view entries.now) ≡ true }
     requires fit { rows_fit (entries_view entries.now) ≡ true }
     requires within { rows_within (length ports.now) (sites_view sites.now) (entries_view entries.now) ≡ true }
     requires starts { starts_within net.now (sites_view sites.now) ≡ true }
-    ensures table { IfOk result (λ o. IfSome o (λ m. TableOf net.now ports.now (room cells forks) (made_view m))) }
-    ensures fits { IfOk result (λ o. IfSome o (λ m. module_fits (made_view m) (room cells forks) (length ports.now) ≡ true)) }
+    ensures table { IfOk result (λ o. IfSome o (λ m. TableOf net.now ports.now (made_view m))) }
+    ensures fits { IfOk result (λ o. IfSome o (λ m. module_fits (made_view m) most_room (length ports.now) ≡ true)) }
 {
     let made = table_of(alloc, bump, net, sites, entries)?;
-    if fits(alloc, bump, made, cells, forks, ports)? {
+    if fits(alloc, bump, made, ports)? {
         Ok(Some(made))
     } else {
         Ok(None)
@@ -117,17 +114,15 @@ fn asked_table<'a>(
     ports: &[u32],
     sites: &[SiteAt],
     entries: &[Entry],
-    cells: u32,
-    forks: u32,
 ) -> Result<Option<Made<'a>>, AllocError>
     requires right { right_table (with_ports net.now ports.now) (sites_view sites.now) (entries_view entries.now) ≡ true }
     requires fit { rows_fit (entries_view entries.now) ≡ true }
     requires within { rows_within (length ports.now) (sites_view sites.now) (entries_view entries.now) ≡ true }
-    ensures table { IfOk result (λ o. IfSome o (λ m. TableOf net.now ports.now (room cells forks) (made_view m))) }
-    ensures fits { IfOk result (λ o. IfSome o (λ m. module_fits (made_view m) (room cells forks) (length ports.now) ≡ true)) }
+    ensures table { IfOk result (λ o. IfSome o (λ m. TableOf net.now ports.now (made_view m))) }
+    ensures fits { IfOk result (λ o. IfSome o (λ m. module_fits (made_view m) most_room (length ports.now) ≡ true)) }
 {
     if starts_within(alloc, net, sites) {
-        fitting_table(alloc, bump, net, ports, sites, entries, cells, forks)
+        fitting_table(alloc, bump, net, ports, sites, entries)
     } else {
         Ok(None)
     }
@@ -143,7 +138,7 @@ fn empty<'a>() -> Made<'a>
     }
 }
 
-/// The table of a net, with a port for each of these places in its list of nodes and so many cells and forks. Its rows are in `bump`.
+/// The table of a net, with a port for each of these places in its list of nodes. Its rows are in `bump`.
 ///
 /// # Errors
 ///
@@ -153,26 +148,13 @@ pub fn make_table<'a>(
     bump: &'a Bump,
     net: &Net,
     ports: &[u32],
-    cells: u32,
-    forks: u32,
 ) -> Result<Made<'a>, AllocError>
-    requires cells { cells < 2 ^ 31 }
-    requires forks { forks < 2 ^ 31 }
     requires ports { length ports.now < 2 ^ 31 }
-    ensures table { IfOk result (λ m. TableOf net.now ports.now (room cells forks) (made_view m)) }
-    ensures fits { IfOk result (λ m. module_fits (made_view m) (room cells forks) (length ports.now) ≡ true) }
+    ensures table { IfOk result (λ m. TableOf net.now ports.now (made_view m)) }
+    ensures fits { IfOk result (λ m. module_fits (made_view m) most_room (length ports.now) ≡ true) }
 {
     let kept = kept_rows(alloc, net, ports)?;
-    let made = asked_table(
-        alloc,
-        bump,
-        net,
-        ports,
-        &kept.sites,
-        &kept.entries,
-        cells,
-        forks,
-    );
+    let made = asked_table(alloc, bump, net, ports, &kept.sites, &kept.entries);
     drop(kept);
     match made? {
         Some(made) => Ok(made),

@@ -4,3 +4,5 @@ mod Telling
 mod Showing
 -- one edge more
 mod Edges
+-- the states of a dump and of a run, and where both end
+mod Together

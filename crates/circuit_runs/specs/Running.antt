@@ -1,12 +1,10 @@
 -- What a run of a net's module comes to: its registers hold 0, then there is one edge with `rst` at 1, and then edges with `rst` at 0,
 -- until `done` or `full` isn't 0 any more, or until there were as many as are allowed.
-use Rattle.std.specs.Prelude.{◌≡◌, ◌≢◌, ◌<◌, ◌≤◌, ◌^◌, ℕ, zero, suc, List, []}
-use Rattle.net_build.specs.Nets.{NetTree}
+use Rattle.std.specs.Prelude.{◌≡◌, ◌≢◌, ◌<◌, ◌≤◌, ◌^◌, ℕ, zero, suc, List}
 use Rattle.pcf_values.specs.declared.val.Val.{Val}
 use Rattle.verilog_tree.specs.Tree.{Item}
 use Rattle.verilog_tree.specs.Meaning.{Store, edge, set_vec}
 use Rattle.circuit_module.specs.Stands.{Small, value_number}
-use Rattle.circuit_made.specs.Made.{CircuitOf, room}
 use Rattle.verilog_run.specs.Held.{nothing}
 use Rattle.circuit_runs.specs.declared.outcome.Outcome.{Outcome}
 use Rattle.circuit_runs.specs.declared.outcome.Outcome.TheVariants.{Ended, Full, Odd, Waits}
@@ -53,7 +51,3 @@ ComesOf is K Waits = (j : ℕ) → j ≤ K → Goes (after is j)
 ComesOf is K (Ended v m j) = ComesAt is K (Ended v m j)
 ComesOf is K (Full j) = ComesAt is K (Full j)
 ComesOf is K (Odd j) = ComesAt is K (Odd j)
-
--- and of a net's circuit, of whichever table, with so many cells and forks
-abbrev pub Comes : NetTree → (cells forks K : ℕ) → Outcome → Type 0
-Comes net cells forks K o = (is : List Item) × CircuitOf net [] (room cells forks) is × ComesOf is K o

@@ -98,7 +98,8 @@ impl Function {
 
     /// The net of the term at zeros. Takes no memory.
     pub fn into_net_at_zeros(self) -> Net
-        ensures { result ≡ net_of (applied self.0 (replicate self.1 0)) }
+        ensures net { result ≡ net_of (applied self.0 (replicate self.1 0)) }
+        ensures typed { HasType [] self.0 (numeric self.1) }
     {
         law_numbers();
         let Function {

@@ -8,7 +8,5 @@ pub mod Edges
 pub mod Told
 -- What is true of the counts so far.
 pub mod Counting
--- What that says of a circuit and of a program: the statements of the laws.
+-- What that says of a circuit: the statements of `law_needs_exact`.
 pub mod Laws
--- What is told of a program and of a function, and of their circuits.
-pub mod Programs

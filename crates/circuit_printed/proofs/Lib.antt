@@ -1,2 +1,0 @@
--- The parts of a text, one behind the other.
-pub mod Whole

@@ -1,2 +1,0 @@
--- the states of a dump and of a run, and where both end
-mod Together

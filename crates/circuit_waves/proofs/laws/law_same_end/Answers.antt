@@ -1,5 +1,0 @@
-use Rattle.circuit_waves.proofs.Together.{same_end}
-use Rattle.circuit_waves.proofs.laws.law_same_end.Goals as goal
-
-pub returns : goal.returns
-returns c = same_end
