@@ -170,6 +170,9 @@ REFUSED = (
     ("circuit p --cells 0", "`0` is no value of `--cells`, which takes 1 to 1048575"),
     ("circuit p --name 1st", "`1st` is no name of a module: a letter or `_`, and then letters, digits, `_` and `$`, at most 255 in all"),
     ("circuit p --name module", "`module` is a reserved word, and names no module"),
+    ("circuit p --needs --cells 9", "`--cells` has no use beside `--needs`"),
+    ("circuit p --vcd --run", "`--vcd` has no use beside `--run`"),
+    ("circuit p --budget 5", "`--budget` has no use without one of `--schedule`, `--run`, `--vcd`, `--needs`, `--bench`"),
     ("trace p --from x", "`x` is no value of `--from`, which takes 0 to 10000000"),
     ("run -p", "`-p` is no option, and none is so short; a file of that name is `./-p`"),
     ("demo 13", "`13` is no number from 0 to 12"),
@@ -192,12 +195,20 @@ def try_table(program):
         ('    Argument::Switch("bench"),\n', ""), ('"span", &SPAN', '"spans", &SPAN'), ("FROM,\n    MOST", "FROM,\n    TALLY,\n    MOST"),
     ):
         judge(f"a program with {new} for {old}", old in source and len(options.odd(page, source.replace(old, new))) > 0)
-    # and what is built takes all options of a command at once, with their values
+    # and what is built takes all options of a command at once, with their values, that may stand beside one another
     for name, row in options.COMMANDS.items():
         words = ["0" if it == "N" else "/lacked" for it in row["operands"]]
+        things = {None: [*row["options"]]}
         for option, it in row["options"].items():
-            words += [option, *([str(it.get("most", it["default"]))] if "value" in it else [])]
-        judge(f"{name} with all its options", call([program, name, *words])[0], 0 if name == "demo" else 3)
+            for thing in it.get("beside", ()):
+                things.setdefault(thing, []).append(option)
+        for thing, fit in things.items():
+            given = []
+            for option in fit:
+                it = row["options"][option]
+                given += [option, *([str(it.get("most", it["default"]))] if "value" in it else [])]
+            wanted = 0 if name == "demo" else 2 if thing is None and len(things) > 1 else 3
+            judge(f"{name} with all its options{f' beside {thing}' if thing else ''}", call([program, name, *words, *given])[0], wanted)
 
 
 def try_help(program):

@@ -78,7 +78,7 @@ enum {
  * GOI_NO_ROOM, nor do goi_run and goi_run_net where no schedule is asked for. (HasRoom) */
 #define GOI_LINE_SIZE 64
 
-/* How much of the stack a call may take. The deepest programs that were tried took 2,646 KiB; no proof says so. */
+/* How much of the stack a call may take. The deepest programs that were tried took 2,133 KiB; no proof says so. */
 #define GOI_STACK_SIZE (4u << 20)
 
 /* The last move with which a part of a trace may begin, and the most moves that it may have. The least are 0 and 1. */

@@ -3,6 +3,7 @@
 import os
 import re
 
+import program
 from judging import EXAMPLES
 from tables.cases import DOUBLE, call, case, plain, row_of, sections
 
@@ -66,5 +67,12 @@ def cases():
         case(f"the modules of {text} with {words}", lambda text=text, words=words: named(text, words), wanted)
     for text in "(1, 2)", "fun f:nat->nat. f 0", "fun p:nat * nat. fst p", "fun x:nat. (x, x)":
         row_of(f"the circuit of {text}", ["goi", "circuit", "p"], {"p": text.encode()}, "1 refused: NotGround;")
-    for option in "--run", "--needs", "--schedule":
+    own = program.table()[0]["circuit"]["options"]
+    flags = [it for it, row in own.items() if row["beside"] == [it]]
+    for asked in "", *flags:
+        for option in (it for it in own if it != asked and (asked or it not in flags)):
+            words = ["goi", "circuit", "p", *[it for it in (asked, option, str(own[option].get("default", ""))) if it]]
+            refused = lambda words=words: call(words, {"p": DOUBLE})[0] == 2
+            case(f"{option} where the circuit is asked for with {asked}", refused, asked not in own[option]["beside"])
+    for option in flags:
         row_of(f"a function's circuit with {option}", ["goi", "circuit", "p", option], {"p": b"fun x:nat. x"}, "1 refused: NotGround;")

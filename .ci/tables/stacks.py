@@ -11,7 +11,7 @@ with open(os.path.join(EXAMPLES, "loop.pcf"), "rb") as file:
 
 def at_work(budget, *words):
     """Status and output of so many edges of examples/loop.pcf, with as many cells as there can be."""
-    return call(["goi", "circuit", "p", "--run", "--cells", "1048575", "--budget", str(budget), *words], {"p": LOOP}, 900)
+    return call(["goi", "circuit", "p", "--cells", "1048575", "--budget", str(budget), *words], {"p": LOOP}, 900)
 
 
 def dump():
@@ -22,5 +22,5 @@ def dump():
 
 
 def cases():
-    case("a million edges of a circuit", lambda: at_work(1000000), (5, b"no value\ncycles 1000000\n", b""))
+    case("a million edges of a circuit", lambda: at_work(1000000, "--run"), (5, b"no value\ncycles 1000000\n", b""))
     case("the dump of 10,000 edges of a circuit", dump, (5, b"", 20003, [b"#100010"]))

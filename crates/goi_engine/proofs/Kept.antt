@@ -34,6 +34,7 @@ use Rattle.goi_engine.specs.ListsSeen.{OfList, ReportsLines}
 use Rattle.program_runs.specs.Programs.{OfGround}
 use Rattle.goi_engine.specs.Verdicts.{Reports, CanDo, Faulty, SurelyLacks}
 use Rattle.goi_engine.proofs.CallHeadlines.{call_promise}
+use Rattle.goi_engine.proofs.CircuitHeadlines.{circuit_promise}
 use Rattle.goi_engine.proofs.Coming.{some_bytes}
 use Rattle.goi_engine.proofs.Headlines.{run_promise}
 use Rattle.goi_engine.proofs.Settled.{one_status, no_fault, no_refusal, same_fault, had_for_report, had_for_refusal, can_has, faulty_has}
@@ -159,6 +160,7 @@ module _ (asked : Option JobTree) (c : Call) where
       record {
         run = run_promise asked c status means;
         call = call_promise asked c status means;
+        circuit = circuit_promise asked c status means;
         means = means;
         files = files;
         quiet = quiet_of status came;

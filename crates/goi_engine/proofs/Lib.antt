@@ -18,5 +18,7 @@ pub mod Coming
 pub mod Headlines
 -- and that of a call
 pub mod CallHeadlines
+-- and that of a circuit
+pub mod CircuitHeadlines
 -- over the files of the system the promise speaks of the bytes that were read
 pub mod Systems

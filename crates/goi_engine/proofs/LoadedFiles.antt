@@ -22,10 +22,9 @@ use Rattle.goi_tasks.specs.declared.fault.Fault.{Fault}
 use Rattle.goi_tasks.specs.declared.stop.Stop.{Stop}
 use Rattle.goi_tasks.specs.Stops.{StopsFor}
 use Rattle.goi_jobs.specs.declared.task.Task.{Task}
-use Rattle.goi_jobs.specs.declared.task.Task.TheVariants.{Run, Check, ShowNet, RunNet, Trace, RunCircuit}
-use Rattle.goi_jobs.specs.declared.task.Task.TheVariants.{NeedsCircuit, ScheduleCircuit, Span, Steps}
+use Rattle.goi_jobs.specs.declared.task.Task.TheVariants.{Run, Check, ShowNet, RunNet, Trace, Span, Steps}
 use Rattle.goi_jobs.specs.declared.verilog.Verilog.{Verilog}
-use Rattle.goi_jobs.specs.declared.verilog.Verilog.TheVariants.{Circuit, Bench}
+use Rattle.goi_jobs.specs.declared.verilog.Verilog.TheVariants as printed
 use Rattle.goi_engine.specs.declared.answer.Answer.{Answer}
 use Rattle.goi_engine.specs.declared.answer.Answer.TheVariants.{Prints, Refused, BadWords, NotRead, NoMemory}
 use Rattle.goi_engine.specs.Answers.{Says, IsStopped, AnswersFile, AnswersNoNet, MadeNet}
@@ -179,9 +178,6 @@ pub fault_goes : (task : Task) (f : Fault) (v bytes : List ℕ) → Same (most_b
 fault_goes (Run budget calling shown) f v bytes s h = faulty_goes (wanted_by_run calling) f v bytes s h
 fault_goes (Check term) f v bytes s h = faulty_goes any_type f v bytes s h
 fault_goes ShowNet f v bytes s h = faulty_goes number f v bytes s h
-fault_goes (RunCircuit cells forks budget waves) f v bytes s h = faulty_goes number f v bytes s h
-fault_goes (NeedsCircuit budget) f v bytes s h = faulty_goes number f v bytes s h
-fault_goes (ScheduleCircuit budget) f v bytes s h = faulty_goes number f v bytes s h
 fault_goes (Span budget calling profile schedule) f v bytes s h = faulty_goes (wanted_by_run calling) f v bytes s h
 fault_goes (Steps budget window) f v bytes s h = faulty_goes number f v bytes s h
 fault_goes (RunNet budget shown) f v bytes s h = listing_goes f v bytes s h
@@ -193,9 +189,6 @@ pub report_goes : (workers : ℕ) (task : Task) (o : Output) (v bytes : List ℕ
 report_goes workers (Run budget calling shown) o v bytes s h = of_program_goes (wanted_by_run calling) _ v bytes s h
 report_goes workers (Check term) o v bytes s h = of_program_goes any_type _ v bytes s h
 report_goes workers ShowNet o v bytes s h = of_program_goes number _ v bytes s h
-report_goes workers (RunCircuit cells forks budget waves) o v bytes s h = of_program_goes number _ v bytes s h
-report_goes workers (NeedsCircuit budget) o v bytes s h = of_program_goes number _ v bytes s h
-report_goes workers (ScheduleCircuit budget) o v bytes s h = of_program_goes number _ v bytes s h
 report_goes workers (Span budget calling profile schedule) o v bytes s h = of_program_goes (wanted_by_run calling) _ v bytes s h
 report_goes workers (Steps budget window) o v bytes s h = of_program_goes number _ v bytes s h
 report_goes workers (RunNet budget shown) o v bytes s h =
@@ -210,16 +203,24 @@ ground_goes t v bytes s (tree, h) = (tree, program_goes number tree t nat v byte
 -- a fault of the first bytes of a file is one of the file
 pub verilog_fault_goes : (verilog : Verilog) (f : Fault) (v bytes : List ℕ) → Same most_program_bytes v bytes → FaultyVerilog verilog v f →
     FaultyVerilog verilog bytes f
-verilog_fault_goes (Circuit cells forks handshake) f v bytes s h = any_fault_goes f v bytes s h
-verilog_fault_goes (Bench budget) f v bytes s h = faulty_goes number f v bytes s h
+verilog_fault_goes (printed.Circuit cells forks handshake) f v bytes s h = any_fault_goes f v bytes s h
+verilog_fault_goes (printed.Run cells forks budget) f v bytes s h = faulty_goes number f v bytes s h
+verilog_fault_goes (printed.Waves cells forks budget) f v bytes s h = faulty_goes number f v bytes s h
+verilog_fault_goes (printed.Bench budget) f v bytes s h = faulty_goes number f v bytes s h
+verilog_fault_goes (printed.Needs budget) f v bytes s h = faulty_goes number f v bytes s h
+verilog_fault_goes (printed.Schedule budget) f v bytes s h = faulty_goes number f v bytes s h
 
 -- and so is a report
 pub verilog_goes : (name : List ℕ) (verilog : Verilog) (o : Output) (v bytes : List ℕ) → Same most_program_bytes v bytes →
     ReportsVerilog name verilog v o → ReportsVerilog name verilog bytes o
-verilog_goes name (Circuit cells forks handshake) o v bytes s h =
+verilog_goes name (printed.Circuit cells forks handshake) o v bytes s h =
     let (tree, x, is) = h.is in
     record { term = h.term; count = h.count; is = (tree, text_goes v bytes tree s x, is); so = h.so }
-verilog_goes name (Bench budget) o v bytes s h = of_program_goes number _ v bytes s h
+verilog_goes name (printed.Run cells forks budget) o v bytes s h = of_program_goes number _ v bytes s h
+verilog_goes name (printed.Waves cells forks budget) o v bytes s h = of_program_goes number _ v bytes s h
+verilog_goes name (printed.Bench budget) o v bytes s h = of_program_goes number _ v bytes s h
+verilog_goes name (printed.Needs budget) o v bytes s h = of_program_goes number _ v bytes s h
+verilog_goes name (printed.Schedule budget) o v bytes s h = of_program_goes number _ v bytes s h
 
 -- ---- the text of a schedule
 

@@ -2,6 +2,8 @@
 pub mod Headline
 -- the same for a call of a function
 pub mod CallHeadline
+-- and for a circuit
+pub mod CircuitHeadline
 -- what a call comes to over the files of the system and two writers, by the bytes that were read and those that were taken
 pub mod OnSystem
 -- everything outside, in a call: what is seen of it before and after, and when nothing of it failed

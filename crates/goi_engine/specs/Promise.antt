@@ -13,6 +13,7 @@ use Rattle.goi_engine.specs.Verdicts.{Reports, Refuses, NotReadFor, CanDo, Fault
 use Rattle.goi_engine.specs.Calls.{Call, NoneFailed}
 use Rattle.goi_engine.specs.Headline.{RunPromise}
 use Rattle.goi_engine.specs.CallHeadline.{CallPromise}
+use Rattle.goi_engine.specs.CircuitHeadline.{CircuitPromise}
 
 -- the line was written to `err` whole, and nothing to `out`
 pub record WroteLine (line : List ℕ) (c : Call) : Type 0 where
@@ -137,9 +138,10 @@ pub record Meanings (asked : Option JobTree) (c : Call) (status : ℕ) : Type 0 
 
 -- the promise of the top call, for the job that was asked for, what is seen of the call from outside, and the status that it gave
 pub record Promise (asked : Option JobTree) (c : Call) (status : ℕ) : Type 0 where
-  -- of a run by name and of a call, in their own words
+  -- of a run by name, of a call and of a circuit, in their own words
   pub run : RunPromise asked c status
   pub call : CallPromise asked c status
+  pub circuit : CircuitPromise asked c status
   -- of every job
   pub means : Meanings asked c status
   -- what the files tell and lack stays

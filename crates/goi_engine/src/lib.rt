@@ -11,6 +11,7 @@ mod answer;
 mod batching;
 mod call_headline;
 mod calling;
+mod circuit_headline;
 mod deliver;
 mod headline;
 mod load;
@@ -18,6 +19,7 @@ mod top;
 mod verilog;
 
 pub use call_headline::law_call_headline;
+pub use circuit_headline::law_circuit_headline;
 pub use deliver::tell_no_memory;
 pub use headline::law_headline;
 pub use top::goi;

@@ -24,7 +24,7 @@ pub data JobTree : Type 0 where
   -- run the term of the program of a file, applied to these numbers, with so many workers and at most so many moves; print its schedule
   -- and its tally where asked
   call : List ℕ → List ℕ → ℕ → ℕ → Bool → Bool → JobTree
-  -- print this of Verilog for the text of a file, under this name of its circuit's module
+  -- print this of the circuit of the text of a file, under this name of its module
   verilog : List ℕ → List ℕ → Verilog → JobTree
 
 -- the job of the code

@@ -6,7 +6,7 @@ pub mod Limits
 pub mod Ranges
 -- What is done with the text of one file: what is shown of a run, and the ranges of its numbers.
 pub mod Tasks
--- The ranges of what is printed of Verilog.
+-- The ranges of what is printed of a circuit.
 pub mod Verilogs
 -- What can be asked for, and the ranges of its numbers.
 pub mod Jobs

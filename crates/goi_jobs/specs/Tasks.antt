@@ -1,10 +1,9 @@
 -- What is done with the text of one file: what is shown of a run, which tasks tell their progress, and the ranges of their numbers.
 use Rattle.std.specs.Prelude.{Bool, false}
-use Rattle.goi_jobs.specs.Ranges.{IsBudget, IsWindow, IsPart, IsCells, IsForks}
+use Rattle.goi_jobs.specs.Ranges.{IsBudget, IsWindow, IsPart}
 use Rattle.goi_jobs.specs.declared.shown.Shown.{Shown}
 use Rattle.goi_jobs.specs.declared.task.Task.{Task}
-use Rattle.goi_jobs.specs.declared.task.Task.TheVariants.{Run, Check, ShowNet, RunNet, Trace, RunCircuit}
-use Rattle.goi_jobs.specs.declared.task.Task.TheVariants.{NeedsCircuit, ScheduleCircuit, Span, Steps}
+use Rattle.goi_jobs.specs.declared.task.Task.TheVariants.{Run, Check, ShowNet, RunNet, Trace, Span, Steps}
 
 -- these are shown, and nothing is
 abbrev pub shown : Bool → Bool → Bool → Shown
@@ -26,8 +25,5 @@ IsWithin (Check term) = Unit {0}
 IsWithin ShowNet = Unit {0}
 IsWithin (RunNet budget shown) = IsBudget budget
 IsWithin (Trace budget calling window) = IsBudget budget × IsWindow window
-IsWithin (RunCircuit cells forks budget waves) = IsBudget budget × IsCells cells × IsForks forks
-IsWithin (NeedsCircuit budget) = IsBudget budget
-IsWithin (ScheduleCircuit budget) = IsBudget budget
 IsWithin (Span budget calling profile schedule) = IsBudget budget
 IsWithin (Steps budget window) = IsBudget budget × IsPart window

@@ -4,7 +4,7 @@
 //! of a file, or what takes more than one text or none. Both are the same by whatever way they were asked for: `goi_words` reads a job from
 //! words, `goi_tasks` does a task, and neither knows the other. Contracts see a job as the `JobTree` of `specs/Jobs.antt`, and a task as
 //! itself; `specs/Ranges.antt` has the ranges of their numbers. `Window` is the part of a trace that is printed, `Shown` what is told of a
-//! run, and `Verilog` what is printed of a circuit.
+//! run, and `Verilog` the one thing that is printed of a circuit.
 #![tactic(auto)]
 
 mod jobs;

@@ -42,27 +42,6 @@ pub enum Task {
         /// The part of the trace that is told.
         window: Window,
     },
-    /// Run the module of the program's circuit, by what its Verilog means, and tell what it answers, or what it does.
-    RunCircuit {
-        /// How many cells it has; from 1 to `MOST_CELLS`.
-        cells: u32,
-        /// How many forks can be open at once; from 1 to `MOST_FORKS`.
-        forks: u32,
-        /// The most cycles; from 1 to `pcf_values::limits::BUDGET`.
-        budget: u32,
-        /// Whether what its registers hold is told, cycle by cycle, in place of its answer.
-        waves: bool,
-    },
-    /// Run the program as `Run` does, and tell how many cells and forks its circuit needs.
-    NeedsCircuit {
-        /// The most moves; from 1 to `pcf_values::limits::BUDGET`.
-        budget: u32,
-    },
-    /// Run the program as its circuit does, the newest question first, and tell the schedule of that run.
-    ScheduleCircuit {
-        /// The most moves; from 1 to `pcf_values::limits::BUDGET`.
-        budget: u32,
-    },
     /// Run the program in rounds, in which all live tokens move once, and tell how many moves and rounds that takes.
     Span {
         /// The most moves; from 1 to `pcf_values::limits::BUDGET`.

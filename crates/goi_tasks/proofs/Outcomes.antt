@@ -33,15 +33,11 @@ use Rattle.program_runs.specs.Programs.{Wanted, any_type, number, wanted_by_run,
 use Rattle.program_runs.specs.Runs.{Tells, meaning, net_run}
 use Rattle.program_runs.proofs.OneProgram.{same_program}
 use Rattle.function_runs.specs.Laws.{OneFunction}
-use Rattle.newest_core.specs.Processor.{newest}
 use Rattle.goi_tasks.specs.declared.fault.Fault.{Fault}
 use Rattle.goi_tasks.specs.declared.fault.Fault.TheVariants.{Program, NetText, Schedule, Moves}
 use Rattle.goi_jobs.specs.declared.shown.Shown.{Shown}
 use Rattle.goi_jobs.specs.declared.task.Task.{Task}
-use Rattle.goi_jobs.specs.declared.task.Task.TheVariants.{Run, Check, ShowNet, RunNet, Trace, RunCircuit}
-use Rattle.goi_jobs.specs.declared.task.Task.TheVariants.{NeedsCircuit, ScheduleCircuit, Span, Steps}
-use Rattle.circuit_runs.specs.Running.{Comes}
-use Rattle.goi_tasks.specs.Circuits.{answer_of}
+use Rattle.goi_jobs.specs.declared.task.Task.TheVariants.{Run, Check, ShowNet, RunNet, Trace, Span, Steps}
 use Rattle.goi_tasks.specs.NetFiles.{FaultyListing, unlisted}
 use Rattle.goi_tasks.specs.Outputs.{Output}
 use Rattle.goi_tasks.specs.Programs.{no_program, FaultyText}
@@ -108,10 +104,6 @@ pub text_status : (workers : ℕ) (task : Task) (bytes : List ℕ) (o : Output) 
 text_status workers (Run budget calling shown) bytes o h = run_status h.so.answer o.status h.so.ends
 text_status workers (Check term) bytes o h = inl (ap (λ (x : Output). x.status) h.so)
 text_status workers ShowNet bytes o h = inl (ap (λ (x : Output). x.status) h.so)
-text_status workers (RunCircuit cells forks budget waves) bytes o h =
-    run_status (answer_of h.so.outcome) o.status h.so.ends
-text_status workers (NeedsCircuit budget) bytes o h = run_status h.so.answer o.status h.so.ends
-text_status workers (ScheduleCircuit budget) bytes o h = run_status h.so.answer o.status h.so.ends
 text_status workers (Span budget calling profile schedule) bytes o h = run_status h.so.answer o.status h.so.ends
 text_status workers (Steps budget window) bytes o h =
     run_status (course_value (reduction budget window h.tree)) o.status (ap (λ (x : Output). x.status) h.so.output_is)
@@ -204,15 +196,6 @@ module _ (known : Known) where
       (report_ends (meaning calling h.term) (net_run calling h.term) workers budget shown o h.so)) k.so
   text_end workers (Check term) bytes o own h k = ap (λ (x : Output). x.status) h.so ∙ sym k.so
   text_end workers ShowNet bytes o own h k = ap (λ (x : Output). x.status) h.so ∙ sym k.so
-  text_end workers (RunCircuit cells forks budget waves) bytes o own h k =
-      let e : h.term ≡ k.term = same_program known.one_program number bytes _ _ h k in
-      h.so.ends
-      ∙ sym (k.so h.so.outcome
-      (subst (λ (t : TermTree). Comes (net_of t) cells forks budget h.so.outcome) e (h.so.items, h.so.circuit, h.so.comes)))
-  text_end workers (NeedsCircuit budget) bytes o own h k =
-      program_end budget bytes _ h.so.answer h.so.moves o.status own h h.so.ends h.so.tells k
-  text_end workers (ScheduleCircuit budget) bytes o own h k =
-      program_end budget bytes _ h.so.answer (length (newest (net_of h.term) budget)) o.status own h h.so.ends h.so.tells k
   text_end workers (Span budget calling profile schedule) bytes o own h k =
       let e : h.term ≡ k.term = same_program known.one_program (wanted_by_run calling) bytes _ _ h k in
       one_run_end budget (net_run calling k.term) o.status own
@@ -240,11 +223,6 @@ module _ (known : Known) where
       text_sound known.one_program (wanted_by_run calling) bytes h.tree h.term h.type f h.is k
   report_sound workers (Check term) bytes o f h k = text_sound known.one_program any_type bytes h.tree h.term h.type f h.is k
   report_sound workers ShowNet bytes o f h k = text_sound known.one_program number bytes h.tree h.term h.type f h.is k
-  report_sound workers (RunCircuit cells forks budget waves) bytes o f h k =
-      text_sound known.one_program number bytes h.tree h.term h.type f h.is k
-  report_sound workers (NeedsCircuit budget) bytes o f h k = text_sound known.one_program number bytes h.tree h.term h.type f h.is k
-  report_sound workers (ScheduleCircuit budget) bytes o f h k =
-      text_sound known.one_program number bytes h.tree h.term h.type f h.is k
   report_sound workers (Span budget calling profile schedule) bytes o f h k =
       text_sound known.one_program (wanted_by_run calling) bytes h.tree h.term h.type f h.is k
   report_sound workers (Steps budget window) bytes o f h k = text_sound known.one_program number bytes h.tree h.term h.type f h.is k
@@ -258,10 +236,6 @@ module _ (known : Known) where
       text_sound known.one_program (wanted_by_run calling) bytes h.tree h.term h.type f h.is k
   end_sound (Check term) bytes own f h k = text_sound known.one_program any_type bytes h.tree h.term h.type f h.is k
   end_sound ShowNet bytes own f h k = text_sound known.one_program number bytes h.tree h.term h.type f h.is k
-  end_sound (RunCircuit cells forks budget waves) bytes own f h k =
-      text_sound known.one_program number bytes h.tree h.term h.type f h.is k
-  end_sound (NeedsCircuit budget) bytes own f h k = text_sound known.one_program number bytes h.tree h.term h.type f h.is k
-  end_sound (ScheduleCircuit budget) bytes own f h k = text_sound known.one_program number bytes h.tree h.term h.type f h.is k
   end_sound (Span budget calling profile schedule) bytes own f h k =
       text_sound known.one_program (wanted_by_run calling) bytes h.tree h.term h.type f h.is k
   end_sound (Steps budget window) bytes own f h k = text_sound known.one_program number bytes h.tree h.term h.type f h.is k
@@ -274,9 +248,6 @@ module _ (known : Known) where
   one_fault_for (Run budget calling shown) bytes f g h k = one_text_fault (wanted_by_run calling) bytes f g h k
   one_fault_for (Check term) bytes f g h k = one_text_fault any_type bytes f g h k
   one_fault_for ShowNet bytes f g h k = one_text_fault number bytes f g h k
-  one_fault_for (RunCircuit cells forks budget waves) bytes f g h k = one_text_fault number bytes f g h k
-  one_fault_for (NeedsCircuit budget) bytes f g h k = one_text_fault number bytes f g h k
-  one_fault_for (ScheduleCircuit budget) bytes f g h k = one_text_fault number bytes f g h k
   one_fault_for (Span budget calling profile schedule) bytes f g h k = one_text_fault (wanted_by_run calling) bytes f g h k
   one_fault_for (Steps budget window) bytes f g h k = one_text_fault number bytes f g h k
   one_fault_for (RunNet budget shown) bytes f g h k = one_listing_fault bytes f g h k

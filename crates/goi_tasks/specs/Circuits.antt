@@ -1,19 +1,18 @@
 -- A run of a program's circuit, by what its Verilog means: what it says of the program, and what is told of it.
 -- How the module runs stands in `circuit_runs`: an edge with `rst` up over registers that hold 0, and then edges until `done` or `full`.
--- Which rows the circuit has is the search's, of those that are right. So what a run comes to is settled by the module, and by the program
--- as far as each of its circuits comes to the same.
+-- What a circuit of the program is stands in `circuit_meaning`. So what a run comes to is settled by the module, and by the program as far
+-- as each of its circuits comes to the same.
 use Rattle.std.specs.Prelude.{◌≡◌, ℕ, suc, Bool, true, false, List, [], Option, None, Some}
 use Rattle.pcf_values.specs.declared.val.Val.{Val}
 use Rattle.pcf_values.specs.Terms.{TermTree}
-use Rattle.net_build.specs.NetOf.{net_of}
 use Rattle.verilog_tree.specs.Tree.{Item}
 use Rattle.verilog_waves.specs.Dump.{dump}
-use Rattle.circuit_made.specs.Made.{CircuitOf, room}
+use Rattle.circuit_meaning.specs.Circuit.{Circuit, IsCircuit}
 use Rattle.circuit_runs.specs.declared.outcome.Outcome.{Outcome}
 use Rattle.circuit_runs.specs.declared.outcome.Outcome.TheVariants.{Ended, Full, Odd, Waits}
-use Rattle.circuit_runs.specs.Running.{Comes, ComesOf}
-use Rattle.circuit_runs.specs.Laws.{TableTells}
-use Rattle.circuit_waves.specs.Laws.{edges_of}
+use Rattle.circuit_runs.specs.Running.{ComesOf}
+use Rattle.circuit_runs.specs.Laws.{RunSays}
+use Rattle.circuit_runs.specs.Waves.{edges_of}
 use Rattle.goi_reports.specs.Cycles.{cycles_report}
 use Rattle.goi_tasks.specs.Outputs.{Output}
 use Rattle.goi_tasks.specs.Replaying.{replay_status}
@@ -40,16 +39,17 @@ IsTold true items most outcome text = text ≡ dump "goi" items (suc (edges_of m
 -- The output of the run of a program's circuit, with so many cells and forks, within so many cycles. What comes of the
 -- module is what comes of it by the meaning of Verilog, and it tells what the program means.
 pub record ReportsCircuit (cells forks budget : ℕ) (waves : Bool) (t : TermTree) (o : Output) : Type 0 where
-  pub items : List Item
-  pub circuit : CircuitOf (net_of t) [] (room cells forks) items
+  pub circuit : Circuit
+  pub is : IsCircuit t 0 circuit
   pub outcome : Outcome
-  pub comes : ComesOf items budget outcome
-  pub tells : TableTells t circuit.sites circuit.entries (room cells forks) budget outcome
+  pub comes : ComesOf (circuit.items cells forks) budget outcome
+  pub says : RunSays t circuit cells forks budget outcome
   pub ends : o.status ≡ replay_status (answer_of outcome)
-  pub told : IsTold waves items budget outcome o.report
+  pub told : IsTold waves (circuit.items cells forks) budget outcome o.report
   pub no_notes : o.notes ≡ []
 
 -- each circuit of the program, with so many cells and forks, ends with this status
 abbrev pub EndsCircuit : (cells forks budget : ℕ) → TermTree → ℕ → Type 0
 EndsCircuit cells forks budget t status =
-    (outcome : Outcome) → Comes (net_of t) cells forks budget outcome → status ≡ replay_status (answer_of outcome)
+    (C : Circuit) → IsCircuit t 0 C → (outcome : Outcome) → ComesOf (C.items cells forks) budget outcome →
+    status ≡ replay_status (answer_of outcome)

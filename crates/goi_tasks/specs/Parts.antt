@@ -10,7 +10,7 @@ use Rattle.pcf_types.specs.Checking.{type_of}
 use Rattle.goi_jobs.specs.declared.window.Window.{Window}
 use Rattle.circuit_runs.specs.declared.outcome.Outcome.{Outcome}
 use Rattle.verilog_tree.specs.Tree.{Item}
-use Rattle.circuit_made.specs.Made.{CircuitOf, room}
+use Rattle.circuit_made.specs.Made.{CircuitOf}
 use Rattle.circuit_runs.specs.Running.{ComesOf}
 use Rattle.goi_tasks.specs.Circuits.{IsTold, answer_of}
 use Rattle.goi_tasks.specs.Outputs.{Output}
@@ -33,7 +33,7 @@ pub record IsListedNet (bytes : List ℕ) (net : NetTree) : Type 0 where
 -- this is the output of the run of the net's circuit
 pub record IsCircuitRun (net : NetTree) (cells forks budget : ℕ) (waves : Bool) (o : Output) : Type 0 where
   pub items : List Item
-  pub circuit : CircuitOf net [] (room cells forks) items
+  pub circuit : CircuitOf net [] cells forks items
   pub outcome : Outcome
   pub comes : ComesOf items budget outcome
   pub ends : o.status ≡ replay_status (answer_of outcome)

@@ -14,11 +14,8 @@ use Rattle.program_runs.specs.declared.calling.Calling.TheVariants.{ByName}
 use Rattle.goi_reports.specs.Reports.{check_report}
 use Rattle.goi_tasks.specs.declared.fault.Fault.{Fault}
 use Rattle.goi_jobs.specs.declared.task.Task.{Task}
-use Rattle.goi_jobs.specs.declared.task.Task.TheVariants.{Run, Check, ShowNet, RunNet, Trace, RunCircuit}
-use Rattle.goi_jobs.specs.declared.task.Task.TheVariants.{NeedsCircuit, ScheduleCircuit, Span, Steps}
-use Rattle.goi_tasks.specs.Circuits.{EndsCircuit, ReportsCircuit}
+use Rattle.goi_jobs.specs.declared.task.Task.TheVariants.{Run, Check, ShowNet, RunNet, Trace, Span, Steps}
 use Rattle.goi_tasks.specs.NetFiles.{FaultyListing}
-use Rattle.goi_tasks.specs.Needs.{ReportsNeeds, ReportsSchedule}
 use Rattle.goi_tasks.specs.Outputs.{Output, output}
 use Rattle.goi_tasks.specs.Programs.{FaultyText}
 use Rattle.goi_tasks.specs.Reductions.{ReportsSteps, reduction}
@@ -45,10 +42,6 @@ ReportsText workers ShowNet bytes o = OfProgram number bytes (λ tree t A. o ≡
 ReportsText workers (RunNet budget shown) bytes o = OfListing bytes (λ t. ReportsRun workers budget ByName shown t o)
 ReportsText workers (Trace budget calling window) bytes o =
     OfProgram (wanted_by_run calling) bytes (λ tree t A. ReportsTrace workers budget calling window t o)
-ReportsText workers (RunCircuit cells forks budget waves) bytes o =
-    OfProgram number bytes (λ tree t A. ReportsCircuit cells forks budget waves t o)
-ReportsText workers (NeedsCircuit budget) bytes o = OfProgram number bytes (λ tree t A. ReportsNeeds budget t o)
-ReportsText workers (ScheduleCircuit budget) bytes o = OfProgram number bytes (λ tree t A. ReportsSchedule budget t o)
 ReportsText workers (Span budget calling profile schedule) bytes o =
     OfProgram (wanted_by_run calling) bytes (λ tree t A. ReportsSpan budget calling profile schedule t o)
 ReportsText workers (Steps budget window) bytes o = OfProgram number bytes (λ tree t A. ReportsSteps budget window tree t o)
@@ -60,9 +53,6 @@ FaultyFor (Check term) bytes f = FaultyText any_type bytes f
 FaultyFor ShowNet bytes f = FaultyText number bytes f
 FaultyFor (RunNet budget shown) bytes f = FaultyListing bytes f
 FaultyFor (Trace budget calling window) bytes f = FaultyText (wanted_by_run calling) bytes f
-FaultyFor (RunCircuit cells forks budget waves) bytes f = FaultyText number bytes f
-FaultyFor (NeedsCircuit budget) bytes f = FaultyText number bytes f
-FaultyFor (ScheduleCircuit budget) bytes f = FaultyText number bytes f
 FaultyFor (Span budget calling profile schedule) bytes f = FaultyText (wanted_by_run calling) bytes f
 FaultyFor (Steps budget window) bytes f = FaultyText number bytes f
 
@@ -75,10 +65,6 @@ EndsText ShowNet bytes status = OfProgram number bytes (λ tree t A. status ≡ 
 EndsText (RunNet budget shown) bytes status = OfListing bytes (λ t. EndsRun budget (net_of t) status)
 EndsText (Trace budget calling window) bytes status =
     OfProgram (wanted_by_run calling) bytes (λ tree t A. EndsRun budget (net_run calling t) status)
-EndsText (RunCircuit cells forks budget waves) bytes status =
-    OfProgram number bytes (λ tree t A. EndsCircuit cells forks budget t status)
-EndsText (NeedsCircuit budget) bytes status = OfProgram number bytes (λ tree t A. EndsRun budget (net_of t) status)
-EndsText (ScheduleCircuit budget) bytes status = OfProgram number bytes (λ tree t A. EndsRun budget (net_of t) status)
 EndsText (Span budget calling profile schedule) bytes status =
     OfProgram (wanted_by_run calling) bytes (λ tree t A. EndsRun budget (net_run calling t) status)
 EndsText (Steps budget window) bytes status =
@@ -91,8 +77,5 @@ most_bytes (Check term) = most_program_bytes
 most_bytes ShowNet = most_program_bytes
 most_bytes (RunNet budget shown) = most_text_bytes
 most_bytes (Trace budget calling window) = most_program_bytes
-most_bytes (RunCircuit cells forks budget waves) = most_program_bytes
-most_bytes (NeedsCircuit budget) = most_program_bytes
-most_bytes (ScheduleCircuit budget) = most_program_bytes
 most_bytes (Span budget calling profile schedule) = most_program_bytes
 most_bytes (Steps budget window) = most_program_bytes

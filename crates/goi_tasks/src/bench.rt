@@ -17,9 +17,9 @@ use crate::report::{Report, plain};
 use crate::running::status_of;
 use crate::stop::Stop;
 use circuit_calls::print_bench;
-use circuit_needs::circuit_needs;
 use goi_reports::replay_report;
 use net_build::Net;
+use newest_runs::newest_run;
 use pcf_values::Val;
 use program_runs::{Calling, net_for};
 use std::alloc::{AllocError, Global};
@@ -53,7 +53,7 @@ fn report_net_bench(
     requires budget { IsBudget budget }
     ensures { IfOk result (λ r. (t : TermTree) → RunsAs ByName t net.now → ReportsBench name.now budget t (output_of r)) }
 {
-    let needs = circuit_needs(alloc, net, budget)?;
+    let needs = newest_run(alloc, net, budget)?;
     let text = bench_of(alloc, name, needs.answer, needs.moves)?;
     Ok(plain(alloc, text, status_of(needs.answer)))
 }

@@ -13,7 +13,7 @@ ghost use Rattle.goi_tasks.specs.Verilogs.{PrintsFunction, PrintsModules, Report
 use crate::report::{Report, plain};
 use crate::stop::Stop;
 use circuit_calls::push_call;
-use circuit_printed::{Ports, print_circuit};
+use circuit_made::{Ports, print_circuit};
 use function_runs::{Function, compile_any};
 use std::alloc::{AllocError, Global};
 

@@ -1,27 +1,24 @@
 //! The run of a program's circuit.
 
-ghost use Rattle.std.specs.Prelude.{◌≡◌, ◌++◌, ℕ, suc, IfOk, IfErr, OnOk, map};
+ghost use Rattle.std.specs.Prelude.{◌≡◌, ◌++◌, suc, IfOk, IfErr, OnOk, map};
 ghost use Rattle.verilog_tree.specs.Views.{item_of};
 ghost use Rattle.circuit_runs.specs.Running.{ComesOf};
-ghost use Rattle.circuit_waves.specs.Laws.{edges_of};
+ghost use Rattle.circuit_runs.specs.Waves.{edges_of};
 ghost use Rattle.verilog_waves.specs.Dump.{dump};
 ghost use Rattle.goi_jobs.specs.Ranges.{IsCells, IsForks};
-ghost use Rattle.goi_jobs.specs.declared.task.Task.TheVariants.{RunCircuit};
-ghost use Rattle.goi_tasks.specs.Circuits.{IsTold, answer_of, is_full};
+ghost use Rattle.goi_tasks.specs.Circuits.{IsTold, ReportsCircuit, answer_of, is_full};
 ghost use Rattle.goi_tasks.specs.Parts.{IsCircuitRun};
 ghost use Rattle.goi_tasks.specs.Seen.{output_of};
 ghost use Rattle.goi_tasks.specs.Programs.{FaultyText};
 ghost use Rattle.goi_tasks.specs.Stops.{StopsFor};
-ghost use Rattle.goi_tasks.specs.Tasks.{ReportsText};
-ghost use Rattle.program_runs.specs.Programs.{number};
+ghost use Rattle.program_runs.specs.Programs.{OfProgram, number};
 
 use crate::report::{Report, plain};
 use crate::running::status_of;
 use crate::stop::Stop;
 use bumpalo::Bump;
 use circuit_made::circuit_items;
-use circuit_runs::{Outcome, law_program_runs, run_items};
-use circuit_waves::law_same_end;
+use circuit_runs::{Outcome, law_program_runs, law_same_end, run_items};
 use goi_reports::cycles_report;
 use net_build::Net;
 use pcf_values::Val;
@@ -51,8 +48,8 @@ pub(crate) fn report_circuit_run(
 ) -> Result<Report, Stop>
     requires cells { IsCells run.cells }
     requires forks { IsForks run.forks }
-    ensures report { IfOk result (λ r. (workers : ℕ) →
-        ReportsText workers (RunCircuit run.cells run.forks run.budget run.waves) bytes.now (output_of r)) }
+    ensures report { IfOk result (λ r. OfProgram number bytes.now
+        (λ tree t A. ReportsCircuit run.cells run.forks run.budget run.waves t (output_of r))) }
     ensures fault { IfErr result (λ e. StopsFor (FaultyText number bytes.now) e) }
 {
     law_program_runs();

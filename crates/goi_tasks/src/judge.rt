@@ -12,8 +12,6 @@ ghost use Rattle.goi_tasks.specs.Stops.{StopsFor};
 ghost use Rattle.goi_tasks.specs.Tasks.{ReportsText, FaultyFor};
 ghost use Rattle.goi_jobs.specs.Tasks.{IsWithin, progress_of};
 
-use crate::circuit_run::{CircuitRun, report_circuit_run};
-use crate::needs::{report_needs, report_schedule};
 use crate::net_file::net_of_listing;
 use crate::program::{report_check, report_net};
 use crate::report::Report;
@@ -52,23 +50,6 @@ pub fn report_text<C: Crew>(
         } => report_program(alloc, bytes, budget, calling, shown, crew),
         Task::Check { term } => report_check(alloc, bytes, term),
         Task::ShowNet => report_net(alloc, bytes),
-        Task::RunCircuit {
-            cells,
-            forks,
-            budget,
-            waves,
-        } => report_circuit_run(
-            alloc,
-            bytes,
-            CircuitRun {
-                cells,
-                forks,
-                budget,
-                waves,
-            },
-        ),
-        Task::NeedsCircuit { budget } => report_needs(alloc, bytes, budget),
-        Task::ScheduleCircuit { budget } => report_schedule(alloc, bytes, budget),
         Task::Span {
             budget,
             calling,

@@ -1,9 +1,9 @@
 //! What is done with texts: from the bytes of a program, of a net's listing or of a schedule, to what is printed or to the first fault.
 //!
 //! A `Task` of `goi_jobs` says what is to be done with the text of one file; `report_text` does it, `report_replay` runs a schedule,
-//! `report_call` a function at numbers, `report_demo` the generated program, and `report_verilog` prints a circuit or a bench for it.
-//! Whatever a task, a call or the generated program runs is run by a `Crew` that is handed in. Each answers the whole output as a value, or
-//! the text's first fault, which `refuse` turns into its line. Files and sinks are left to the crate above. `giving`, `answer`, `rows` and
+//! `report_call` a function at numbers, `report_demo` the generated program, and `report_verilog` what is asked for of a circuit. Whatever
+//! a task, a call or the generated program runs is run by a `Crew` that is handed in. Each answers the whole output as a value, or the
+//! text's first fault, which `refuse` turns into its line. Files and sinks are left to the crate above. `giving`, `answer`, `rows` and
 //! `asked` are the parts of the calls for other languages of which wrong bodies are tried; `goi_c` has the exports.
 #![tactic(auto)]
 

@@ -1,31 +1,27 @@
 //! What a program's circuit needs, and who moves in a run with the newest question first.
 
-ghost use Rattle.std.specs.Prelude.{◌≡◌, ℕ, true, false, IfOk, IfErr};
+ghost use Rattle.std.specs.Prelude.{◌≡◌, true, false, IfOk, IfErr};
 ghost use Rattle.pcf_values.specs.Terms.{TermTree};
 ghost use Rattle.interleave_laws.specs.Runs.{Runs};
 ghost use Rattle.goi_jobs.specs.Ranges.{IsBudget};
-ghost use Rattle.goi_jobs.specs.declared.task.Task.TheVariants.{NeedsCircuit, ScheduleCircuit};
 ghost use Rattle.program_runs.specs.declared.calling.Calling.TheVariants.{ByName};
 ghost use Rattle.program_runs.specs.Nets.{RunsAs};
-ghost use Rattle.program_runs.specs.Programs.{number};
+ghost use Rattle.program_runs.specs.Programs.{OfProgram, number};
 ghost use Rattle.goi_reports.specs.Booked.{BookedWithin};
 ghost use Rattle.goi_reports.specs.Reports.{run_report};
 ghost use Rattle.goi_tasks.specs.Seen.{output_of};
-ghost use Rattle.goi_tasks.specs.Needs.{CountsNet, ReportsNeeds, ReportsSchedule, counts_text};
+ghost use Rattle.goi_tasks.specs.Needs.{ReportsNeeds, ReportsSchedule, counts_text};
 ghost use Rattle.goi_tasks.specs.Programs.{FaultyText};
 ghost use Rattle.goi_tasks.specs.Stops.{StopsFor};
-ghost use Rattle.goi_tasks.specs.Tasks.{ReportsText};
 
 use crate::report::{Report, plain};
 use crate::running::status_of;
 use crate::stop::Stop;
-use bumpalo::Bump;
-use circuit_made::make_table;
-use circuit_needs::{Scheduled, circuit_needs, circuit_schedule};
-use goi_jobs::{MOST_CELLS, MOST_FORKS};
+use circuit_made::circuit_needs;
 use goi_reports::{Parts, needs_report, no_row_report, run_report};
-use joined_needs::{Ending, Needs, joined_needs};
+use joined_needs::{Ending, Needs};
 use net_build::Net;
+use newest_runs::{Scheduled, newest_run, newest_schedule};
 use pcf_values::Val;
 use program_runs::{Calling, net_for};
 use std::alloc::{AllocError, Global};
@@ -33,7 +29,7 @@ use std::alloc::{AllocError, Global};
 /// The report of what the circuit of a text's program needs, whose type is `nat`.
 pub(crate) fn report_needs(alloc: Global, bytes: &[u8], budget: u32) -> Result<Report, Stop>
     requires budget { IsBudget budget }
-    ensures report { IfOk result (λ r. (workers : ℕ) → ReportsText workers (NeedsCircuit budget) bytes.now (output_of r)) }
+    ensures report { IfOk result (λ r. OfProgram number bytes.now (λ tree t A. ReportsNeeds budget t (output_of r))) }
     ensures fault { IfErr result (λ e. StopsFor (FaultyText number bytes.now) e) }
 {
     let net = net_for(alloc, bytes, Calling::ByName)?;
@@ -48,20 +44,10 @@ fn report_counted(alloc: Global, net: &Net, budget: u32) -> Result<Report, Alloc
     requires budget { IsBudget budget }
     ensures { IfOk result (λ r. (t : TermTree) → RunsAs ByName t net.now → ReportsNeeds budget t (output_of r)) }
 {
-    let needs = circuit_needs(alloc, net, budget)?;
-    let counts = count_net(alloc, net, budget)?;
+    let needs = newest_run(alloc, net, budget)?;
+    let counts = circuit_needs(alloc, net, &[], &[], budget)?;
     let text = text_of(alloc, needs.answer, needs.moves, counts)?;
     Ok(plain(alloc, text, status_of(needs.answer)))
-}
-
-/// The counts of a run of the net's circuit.
-fn count_net(alloc: Global, net: &Net, budget: u32) -> Result<Needs, AllocError>
-    ensures { IfOk result (λ n. CountsNet budget net.now n) }
-{
-    let bump = Bump::new(alloc);
-    let made = make_table(alloc, &bump, net, &[], MOST_CELLS, MOST_FORKS)?;
-    let counts = joined_needs(alloc, made.rows, made.start, &[], budget)?;
-    Ok(counts)
 }
 
 /// The lines of a run with this answer after so many moves, and of the counts of its circuit's run.
@@ -89,7 +75,7 @@ fn text_of(
 /// The report of the schedule by which the circuit of a text's program moves, whose type is `nat`.
 pub(crate) fn report_schedule(alloc: Global, bytes: &[u8], budget: u32) -> Result<Report, Stop>
     requires budget { IsBudget budget }
-    ensures report { IfOk result (λ r. (workers : ℕ) → ReportsText workers (ScheduleCircuit budget) bytes.now (output_of r)) }
+    ensures report { IfOk result (λ r. OfProgram number bytes.now (λ tree t A. ReportsSchedule budget t (output_of r))) }
     ensures fault { IfErr result (λ e. StopsFor (FaultyText number bytes.now) e) }
 {
     let net = net_for(alloc, bytes, Calling::ByName)?;
@@ -104,7 +90,7 @@ fn report_scheduled(alloc: Global, net: &Net, budget: u32) -> Result<Report, All
     requires budget { IsBudget budget }
     ensures { IfOk result (λ r. (t : TermTree) → RunsAs ByName t net.now → ReportsSchedule budget t (output_of r)) }
 {
-    let made = circuit_schedule(alloc, net, budget)?;
+    let made = newest_schedule(alloc, net, budget)?;
     let answer = made.answer;
     let text = scheduled_text(alloc, &made);
     drop(made);

@@ -1,4 +1,4 @@
-//! What is printed of Verilog for a text: the report, or the first fault.
+//! What is printed of a text's circuit: the report, or the first fault.
 
 ghost use Rattle.std.specs.Prelude.{IfOk, IfErr};
 ghost use Rattle.goi_jobs.specs.Verilogs.{IsPrinted};
@@ -8,12 +8,14 @@ ghost use Rattle.goi_tasks.specs.Verilogs.{ReportsVerilog, FaultyVerilog};
 
 use crate::bench::report_bench;
 use crate::circuit::report_circuit;
+use crate::circuit_run::{CircuitRun, report_circuit_run};
+use crate::needs::{report_needs, report_schedule};
 use crate::report::Report;
 use crate::stop::Stop;
 use goi_jobs::Verilog;
 use std::alloc::Global;
 
-/// The report with what is printed of Verilog for a text, where the circuit's module has this name:
+/// The report with what is printed of a text's circuit, whose module has this name:
 /// `verilog_names::is_module_name` tells which names a tool takes.
 ///
 /// # Errors
@@ -35,6 +37,36 @@ pub fn report_verilog(
             forks,
             handshake,
         } => report_circuit(alloc, bytes, name, cells, forks, handshake),
+        Verilog::Run {
+            cells,
+            forks,
+            budget,
+        } => report_circuit_run(
+            alloc,
+            bytes,
+            CircuitRun {
+                cells,
+                forks,
+                budget,
+                waves: false,
+            },
+        ),
+        Verilog::Waves {
+            cells,
+            forks,
+            budget,
+        } => report_circuit_run(
+            alloc,
+            bytes,
+            CircuitRun {
+                cells,
+                forks,
+                budget,
+                waves: true,
+            },
+        ),
         Verilog::Bench { budget } => report_bench(alloc, bytes, name, budget),
+        Verilog::Needs { budget } => report_needs(alloc, bytes, budget),
+        Verilog::Schedule { budget } => report_schedule(alloc, bytes, budget),
     }
 }

@@ -12,23 +12,23 @@ use Rattle.std.proofs.lemmas.List.Folds.{find-append}
 use Rattle.std.proofs.lemmas.Slice.Eq.{bytes_eq-Decides}
 use Rattle.clap.specs.Lexer.{usize_max}
 use Rattle.clap.specs.Facts.{explicit_source}
-use Rattle.clap.specs.Walk.{Row, Text, has_row, with_default}
+use Rattle.clap.specs.Walk.{Row, Rule, Text, has_row, with_default}
 use Rattle.clap.specs.Simple.{Shape, filled}
 use Rattle.goi_words.specs.Commands.{Choice, CommandRow, Operand, a_number, a_text, choice_name, named, numbered, operand}
 use Rattle.goi_words.specs.Commands.{operand_name, ranged_operand, some_numbers, switch, wide_operand}
 use Rattle.goi_words.specs.Asked.{findings, number_in, numbers_of, wide_numbers_in}
+use Rattle.goi_words.specs.Findings.{Findings}
 use Rattle.goi_words.specs.Plain.{AllFit, IsOption, IsPlain, Setting, Takes, Value, given as given_to, is_given}
 use Rattle.goi_words.specs.Plain.{name_given, number, number_given, number_in_value, numbers}
 use Rattle.goi_words.specs.Plain.{numbers_given, option_given, text, text_given, text_in_value, value_given}
 use Rattle.goi_words.proofs.Decimals.{decimal_kept, decimal_number}
 use Rattle.goi_words.proofs.Operands.{ArePlaced, IsLast, is_small, operand_rows}
-use Rattle.goi_words.proofs.Ready.{IsNamedFor, IsOwn, IsReady, IsSameAt, IsSameFor, IsThere, knows, leaf}
-use Rattle.goi_words.proofs.Rows.{default_row, given, row_after, row_at}
-use Rattle.goi_words.proofs.Settings.{IsKnown, choice_named, known_in, number_at, row_named, set_at, set_row}
+use Rattle.goi_words.proofs.Ready.{HasJobOf, IsFoundAt, IsFoundFor, IsGivenAlike, IsOwn, IsReady, IsSameAt, IsSameFor, IsThere, knows, leaf}
+use Rattle.goi_words.proofs.Rows.{default_row, given, own_default, row_after, row_at}
+use Rattle.goi_words.proofs.Settings.{IsKnown, choice_named, given_at, known_in, number_at, row_named, set_at, set_row}
 use Rattle.goi_words.proofs.Settings.{text_at, value_row}
 use Rattle.goi_words.proofs.Walks.{same_text}
 use Rattle.goi_words.proofs.Wide.{wide_numbers}
-use Rattle.verilog_names.specs.Name.{module_name}
 
 -- a number of 32 bits that stands in the row of an argument with a range
 number_there : (n : ℕ) (name : Text) → n < 2 ^ 32 → number_at (Some (value_row name (Some (number n)))) ≡ Some n
@@ -215,58 +215,49 @@ text_valued n default name (Some (number k)) takes = absurd takes
 text_valued n default name (Some (text t)) takes = refl
 text_valued n default name (Some (numbers ks)) takes = absurd takes
 
--- it is the name of a module
-right_value : (n default : Text) (value : Option Value) → Takes (named n default) value
-    → (t : Text) × (text_in_value value ≡ Some t) × (module_name t ≡ true)
-right_value n default None takes = absurd takes
-right_value n default (Some (number k)) takes = absurd takes
-right_value n default (Some (text t)) takes = (t, refl, takes)
-right_value n default (Some (numbers ks)) takes = absurd takes
-
--- and so is what is given, or else the default
-right_name : (cs : List Choice) (n default : Text) → find (λ c. bytes_eq (choice_name c) n) cs ≡ Some (named n default)
-    → module_name default ≡ true → (ss : List Setting) → AllByRecursion (IsOption cs) ss
-    → (t : Text) × (option_map_or text_in_value (value_given n ss) (Some default) ≡ Some t) × (module_name t ≡ true)
-right_name cs n default listed is [] options = (default, refl, is)
-right_name cs n default listed is (s ∷ ss) options = go (bytes_eq s.name n) refl (right_name cs n default listed is ss options.1)
+-- whether an option is given, as this shows in its row
+given_found : (at : Option Row → Bool) (cs : List Choice) (ch : Choice) (d : Option Row)
+    → find (λ c. bytes_eq (choice_name c) (choice_name ch)) cs ≡ Some ch
+    → ((name : Text) (value : Option Value) → Takes ch value → at (Some (value_row name value)) ≡ true) → at d ≡ false
+    → (ss : List Setting) → AllByRecursion (IsOption cs) ss
+    → at (option_or (row_at (choice_name ch) (map set_row ss)) d) ≡ is_given (choice_name ch) ss
+given_found at cs ch d listed set is [] options = is
+given_found at cs ch d listed set is (s ∷ ss) options =
+    go (bytes_eq s.name (choice_name ch)) refl (given_found at cs ch d listed set is ss options.1)
   where
-    go : (b : Bool) → bytes_eq s.name n ≡ b
-        → (t : Text) × (option_map_or text_in_value (value_given n ss) (Some default) ≡ Some t) × (module_name t ≡ true)
-        → (t : Text) × (option_map_or text_in_value (value_given n (s ∷ ss)) (Some default) ≡ Some t) × (module_name t ≡ true)
+    go : (b : Bool) → bytes_eq s.name (choice_name ch) ≡ b
+        → at (option_or (row_at (choice_name ch) (map set_row ss)) d) ≡ is_given (choice_name ch) ss
+        → at (option_or (row_at (choice_name ch) (map set_row (s ∷ ss))) d) ≡ is_given (choice_name ch) (s ∷ ss)
     go true same rest =
-        let takes = setting_of cs (named n default) s options.0 listed ((bytes_eq-Decides s.name n).0 same) in
-        let right = right_value n default s.value takes in (
-          right.0,
-          ap (λ (b : Bool). option_map_or text_in_value (cond b (Some s.value) (value_given n ss)) (Some default)) same ∙ right.1,
-          right.2,
-        )
-    go false differs rest = (
-      rest.0,
-      ap (λ (b : Bool). option_map_or text_in_value (cond b (Some s.value) (value_given n ss)) (Some default)) differs ∙ rest.1,
-      rest.2,
-    )
-
--- whether a flag is set
-flag_found : (cs : List Choice) (name : Text) (d : Option Row) → find (λ c. bytes_eq (choice_name c) name) cs ≡ Some (switch name)
-    → set_at d ≡ false → (ss : List Setting) → AllByRecursion (IsOption cs) ss
-    → set_at (option_or (row_at name (map set_row ss)) d) ≡ is_given name ss
-flag_found cs name d listed is [] options = is
-flag_found cs name d listed is (s ∷ ss) options =
-    go (bytes_eq s.name name) refl (flag_found cs name d listed is ss options.1)
-  where
-    set : (value : Option Value) → Takes (switch name) value → set_at (Some (value_row s.name value)) ≡ true
-    set None takes = refl
-    set (Some v) takes = absurd takes
-
-    go : (b : Bool) → bytes_eq s.name name ≡ b → set_at (option_or (row_at name (map set_row ss)) d) ≡ is_given name ss
-        → set_at (option_or (row_at name (map set_row (s ∷ ss))) d) ≡ is_given name (s ∷ ss)
-    go true same rest =
-        ap (λ o. set_at (option_or o d)) (row_of_first s ss name true same)
-        ∙ set s.value (setting_of cs (switch name) s options.0 listed ((bytes_eq-Decides s.name name).0 same))
-        ∙ sym (ap (λ (b : Bool). b || is_given name ss) same)
+        ap (λ o. at (option_or o d)) (row_of_first s ss (choice_name ch) true same)
+        ∙ set s.name s.value (setting_of cs ch s options.0 listed ((bytes_eq-Decides s.name (choice_name ch)).0 same))
+        ∙ sym (ap (λ (b : Bool). b || is_given (choice_name ch) ss) same)
     go false differs rest =
-        ap (λ o. set_at (option_or o d)) (row_of_first s ss name false differs) ∙ rest
-        ∙ sym (ap (λ (b : Bool). b || is_given name ss) differs)
+        ap (λ o. at (option_or o d)) (row_of_first s ss (choice_name ch) false differs) ∙ rest
+        ∙ sym (ap (λ (b : Bool). b || is_given (choice_name ch) ss) differs)
+
+-- a flag that is given is set
+flag_set : (name n : Text) (value : Option Value) → Takes (switch name) value → set_at (Some (value_row n value)) ≡ true
+flag_set name n None takes = refl
+flag_set name n (Some v) takes = absurd takes
+
+-- the row of an option that is given comes from the words
+words_row : (name : Text) (value : Option Value) → given_at (Some (value_row name value)) ≡ true
+words_row name None = refl
+words_row name (Some (number n)) = refl
+words_row name (Some (text t)) = refl
+words_row name (Some (numbers ns)) = refl
+
+-- and that of a default doesn't
+default_not_given : (name : Text) (rules : List Rule) → given_at (default_row name rules) ≡ false
+default_not_given name [] = refl
+default_not_given name (a ∷ rules) = go a.defaults (bytes_eq a.id name) refl (default_not_given name rules)
+  where
+    go : (values : List Text) (b : Bool) → bytes_eq a.id name ≡ b → given_at (default_row name rules) ≡ false
+        → given_at (option_or (own_default name a values) (default_row name rules)) ≡ false
+    go [] b is rest = rest
+    go (v ∷ vs) true is rest = rw is refl
+    go (v ∷ vs) false is rest = rw is rest
 
 -- the number of the option of a name
 option_found : (cs : List Choice) (name : Text) (least most : ℕ) (default : Text) (ss : List Setting)
@@ -323,6 +314,23 @@ name_found (ch ∷ cs) name default ss listed =
 pub each : {X : Type 0} {P Q : X → Type 0} → ((x : X) → P x → Q x) → (xs : List X) → AllByRecursion P xs → AllByRecursion Q xs
 each f [] all = tt
 each f (x ∷ xs) all = (f x all.0, each f xs all.1)
+
+-- and what follows from two things that hold of each
+each_two : {X : Type 0} {P Q R : X → Type 0} → ((x : X) → P x → Q x → R x) → (xs : List X) → AllByRecursion P xs → AllByRecursion Q xs
+    → AllByRecursion R xs
+each_two f [] ps qs = tt
+each_two f (x ∷ xs) ps qs = (f x ps.0 qs.0, each_two f xs ps.1 qs.1)
+
+-- what an argument asks for is found where the same is
+found_at : (f g : Findings) (o : Operand) → IsSameAt f g o → IsFoundAt f o → IsFoundAt g o
+found_at f g (a_text name) same found = (found.0, sym same ∙ found.1)
+found_at f g (a_number name least most) same found = (found.0, sym same ∙ found.1, found.2, found.3)
+found_at f g (some_numbers name) same found = (found.0, sym same ∙ found.1)
+
+found_for : (f g : Findings) (ch : Choice) → IsSameFor f g ch → IsFoundFor f ch → IsFoundFor g ch
+found_for f g (switch name) same found = tt
+found_for f g (numbered name least most default) same found = (found.0, sym same ∙ found.1, found.2, found.3)
+found_for f g (named name default) same found = (found.0, sym same ∙ found.1)
 
 -- the rows of plain words, and those in the end
 abbrev pub plain_rows : CommandRow → List Value → List Setting → List Row
@@ -416,20 +424,12 @@ module _ (c : CommandRow) (ready : IsReady c) (vs : List Value) (ss : List Setti
       let s = shown (leaf c) 1 c.operands vs name (some_numbers name) ready.placed plain.operands own.0 in
       numbers_there name own s.0 s.1 s.3 ∙ sym s.2
 
-  -- the text of an option with a name
-  name_in_the_end : (name default : Text) → IsKnown (leaf c) c.operands c.choices (named name default)
-      → text_at (row_at name (final_rows c vs ss)) ≡ option_map_or text_in_value (value_given name ss) (Some default)
-  name_in_the_end name default k =
-      ap text_at (row_of_option (named name default) k)
-      ∙ found_by text_at text_in_value c.choices (named name default) (default_row name (leaf c).rules) (Some default) k.4
-      (text_valued name default) (ap text_at k.7.1 ∙ k.7.2) ss plain.options
-
   -- and so is an option
   same_for : (ch : Choice) → IsKnown (leaf c) c.operands c.choices ch
       → IsSameFor (findings (final_rows c vs ss)) (given_to c vs ss) ch
   same_for (switch name) k =
       ap set_at (row_of_option (switch name) k)
-      ∙ flag_found c.choices name (default_row name (leaf c).rules) k.4 k.7 ss plain.options
+      ∙ given_found set_at c.choices (switch name) (default_row name (leaf c).rules) k.4 (flag_set name) k.7 ss plain.options
   same_for (numbered name least most default) k =
       ap number_at (row_of_option (numbered name least most default) k)
       ∙ found_by number_at number_in_value c.choices (numbered name least most default) (default_row name (leaf c).rules)
@@ -437,17 +437,19 @@ module _ (c : CommandRow) (ready : IsReady c) (vs : List Value) (ss : List Setti
       ∙ sym (option_found c.choices name least most default ss k.4)
       ∙ sym (ap (λ o. option_or o (option_given c.choices ss name)) (absent c.operands vs name plain.operands k.5).given)
   same_for (named name default) k =
-      name_in_the_end name default k
+      ap text_at (row_of_option (named name default) k)
+      ∙ found_by text_at text_in_value c.choices (named name default) (default_row name (leaf c).rules) (Some default) k.4
+      (text_valued name default) (ap text_at k.7.1 ∙ k.7.2) ss plain.options
       ∙ sym (name_found c.choices name default ss k.4)
       ∙ sym (ap (λ o. option_or o (name_given c.choices ss name)) (absent c.operands vs name plain.operands k.5).text)
 
-  -- the name of a module is one
-  named_for : (ch : Choice) → IsKnown (leaf c) c.operands c.choices ch → IsNamedFor (findings (final_rows c vs ss)) ch
-  named_for (switch name) k = tt
-  named_for (numbered name least most default) k = tt
-  named_for (named name default) k =
-      let right = right_name c.choices name default k.4 k.6 ss plain.options in
-      (right.0, name_in_the_end name default k ∙ right.1, right.2)
+  -- and it is given where it is found so
+  given_for : (ch : Choice) → IsKnown (leaf c) c.operands c.choices ch
+      → IsGivenAlike (findings (final_rows c vs ss)) (given_to c vs ss) ch
+  given_for ch k =
+      ap given_at (row_of_option ch k)
+      ∙ given_found given_at c.choices ch (default_row (choice_name ch) (leaf c).rules) k.4 (λ name value takes. words_row name value)
+      (default_not_given (choice_name ch) (leaf c).rules) ss plain.options
 
   -- an operand that has to be there is
   there_at : (o : Operand) → IsOwn (leaf c) c.operands o → IsThere (final_rows c vs ss) o
@@ -465,10 +467,16 @@ module _ (c : CommandRow) (ready : IsReady c) (vs : List Value) (ss : List Setti
   pub job_is_given : c.job (findings (final_rows c vs ss)) ≡ c.job (given_to c vs ss)
   job_is_given =
       ready.same (findings (final_rows c vs ss)) (given_to c vs ss) (each same_at c.operands ready.own)
-      (each same_for c.choices (knows c ready))
+      (each same_for c.choices (knows c ready)) (each given_for c.choices (knows c ready))
 
-  pub all_named : AllByRecursion (IsNamedFor (findings (final_rows c vs ss))) c.choices
-  all_named = each named_for c.choices (knows c ready)
+  pub given_has_job : AllByRecursion (IsFoundAt (findings (final_rows c vs ss))) c.operands
+      → AllByRecursion (IsFoundFor (findings (final_rows c vs ss))) c.choices
+      → HasJobOf c.name (given_to c vs ss) (c.job (given_to c vs ss))
+  given_has_job at for =
+      let found = findings (final_rows c vs ss) in
+      ready.has_job (given_to c vs ss)
+      (each_two (found_at found (given_to c vs ss)) c.operands (each same_at c.operands ready.own) at)
+      (each_two (found_for found (given_to c vs ss)) c.choices (each same_for c.choices (knows c ready)) for)
 
   pub all_there : AllByRecursion (IsThere (final_rows c vs ss)) c.operands
   all_there = each there_at c.operands ready.own

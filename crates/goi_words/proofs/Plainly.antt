@@ -1,5 +1,5 @@
 -- Plain words of a command are taken, and ask for what they give.
-use Rattle.std.proofs.Common.{◌≡◌, ◌∙◌, ◌∷◌, ◌++◌, ap, refl, sym, subst, append-nil, List, [], Some, codes}
+use Rattle.std.proofs.Common.{◌≡◌, ◌∙◌, ◌∷◌, ◌++◌, refl, sym, subst, append-nil, List, [], codes, inl, inr}
 use Rattle.std.specs.List.{AllByRecursion, flat_map}
 use Rattle.clap.specs.Walk.{Text, nothing_held}
 use Rattle.clap.specs.Simple.{filled}
@@ -7,14 +7,14 @@ use Rattle.goi_words.specs.Commands.{CommandRow, choice_rule}
 use Rattle.goi_words.specs.Asked.{findings, job_on}
 use Rattle.goi_words.specs.Laws.{TakesPlainWords}
 use Rattle.goi_words.specs.Plain.{IsPlain, Setting, Value, option_words, setting_words, value_words}
-use Rattle.goi_words.proofs.Agreeing.{all_named, all_there, absent, apart_from, each, final_rows, job_is_given}
+use Rattle.goi_words.proofs.Agreeing.{all_there, absent, apart_from, each, final_rows, given_has_job, job_is_given}
 use Rattle.goi_words.proofs.Agreeing.{no_row, plain_rows}
 use Rattle.goi_words.proofs.Entering.{below_job}
 use Rattle.goi_words.proofs.Levels.{Gives, level_ends, level_gives}
 use Rattle.goi_words.proofs.Operands.{Reaches, operand_rows, operands_read}
-use Rattle.goi_words.proofs.Ready.{IsNamedFor, IsReady, cleanly, knows, leaf}
+use Rattle.goi_words.proofs.Ready.{IsReady, cleanly, knows, leaf}
 use Rattle.goi_words.proofs.Settings.{choice_named, is_named, known_in, settings_read}
-use Rattle.goi_words.proofs.Taken.{named_has_job}
+use Rattle.goi_words.proofs.Taken.{AreFound, all_found}
 use Rattle.goi_words.proofs.Walks.{Names, then}
 
 -- what holds of everything holds of a list
@@ -58,12 +58,14 @@ module _ (c : CommandRow) (ready : IsReady c) (vs : List Value) where
 pub takes_plain_words : (c : CommandRow) → IsReady c → TakesPlainWords c
 takes_plain_words c ready program vs ss plain =
     let words = flat_map value_words vs ++ flat_map setting_words ss in
-    let gives = reads c ready vs ss plain in
-    let entered = below_job program c.name (leaf c) words (final_rows c vs ss) ready.enters gives in
-    let named = subst (λ rows. AllByRecursion (IsNamedFor (findings rows)) c.choices) (sym gives.rows_are)
-    (all_named c ready vs ss plain) in
     let rows = final_rows c vs ss in
-    let taken = named_has_job c ready words gives.clean named in
-    let there : job_on c.name (final_rows c vs ss) ≡ Some taken.0 = sym (ap (job_on c.name) gives.rows_are) ∙ taken.1 in
-    let whole : job_on c.name rows ≡ c.job (findings rows) = ready.job rows in
-    (taken.0, sym (job_is_given c ready vs ss plain) ∙ sym whole ∙ there, entered ∙ there)
+    let gives = reads c ready vs ss plain in
+    let entered = below_job program c.name (leaf c) words rows ready.enters gives in
+    let found = subst (λ rows. AreFound c (findings rows)) gives.rows_are (all_found c ready words gives.clean) in
+    let whole : job_on c.name rows ≡ c.job (findings rows) = ready.job rows in (
+      entered ∙ whole ∙ job_is_given c ready vs ss plain,
+      elim (given_has_job c ready vs ss plain found.operands found.choices) [
+        | inl has ↦ inl (has.0, has.1)
+        | inr bad ↦ inr bad
+      ],
+    )

@@ -1,7 +1,7 @@
 -- What is to be shown of each command of the table, that all theorems hold of it: most of it by computing.
-use Rattle.std.proofs.Common.{map, ◌≡◌, ◌≤◌, ◌&&◌, Bool, true, false, codes, List, [], Option, None, Some, ℕ}
+use Rattle.std.proofs.Common.{map, ◌≡◌, ◌⊎◌, ◌≤◌, true, false, codes, List, [], Option, None, Some, ℕ}
 use Rattle.std.specs.Prelude.{⊤}
-use Rattle.std.specs.List.{AllByRecursion, find, list_all}
+use Rattle.std.specs.List.{AllByRecursion, find}
 use Rattle.std.specs.Str.{bytes_eq}
 use Rattle.clap.specs.Walk.{Row, Rule, Text}
 use Rattle.clap.specs.Simple.{Shape, built, built_leaf, inherited, marked_built, with_leaf_noted}
@@ -9,7 +9,7 @@ use Rattle.clap.specs.Faults.{check_fault, given_default_fault}
 use Rattle.clap.specs.Kinds.{Kinds}
 use Rattle.clap.specs.Takes.{is_given as is_row_given}
 use Rattle.goi_words.specs.Findings.{Findings}
-use Rattle.goi_words.specs.Commands.{Choice, CommandRow, Operand, a_number, a_text, goi_command, named, numbered}
+use Rattle.goi_words.specs.Commands.{Choice, CommandRow, IsUnfit, Operand, a_number, a_text, choice_name, goi_command, named, numbered}
 use Rattle.goi_words.specs.Commands.{operand_name, some_numbers, subcommand, switch}
 use Rattle.goi_words.specs.Asked.{findings, job_on}
 use Rattle.goi_jobs.specs.Jobs.{IsWithinLimits, JobTree}
@@ -17,7 +17,6 @@ use Rattle.goi_words.proofs.Operands.{ArePlaced}
 use Rattle.goi_words.proofs.Rows.{HasCleanDefaults, default_row}
 use Rattle.goi_words.proofs.Settings.{IsKnown, all_known, each_equal, facts, wanted}
 use Rattle.goi_words.proofs.Tops.{Enters}
-use Rattle.verilog_names.specs.Name.{module_name}
 
 -- a command as the parse sees it
 abbrev pub leaf : CommandRow → Shape
@@ -49,17 +48,13 @@ IsFoundFor f (switch name) = ⊤
 IsFoundFor f (numbered name least most default) = (n : ℕ) × (f.number name ≡ Some n) × (least ≤ n) × (n ≤ most)
 IsFoundFor f (named name default) = (t : Text) × (f.text name ≡ Some t)
 
--- where the name of a module is wanted, one is found
-abbrev pub IsNamedFor : Findings → Choice → Type 0
-IsNamedFor f (switch name) = ⊤
-IsNamedFor f (numbered name least most default) = ⊤
-IsNamedFor f (named name default) = (t : Text) × (f.text name ≡ Some t) × (module_name t ≡ true)
+-- the words give an option for both, or for neither
+abbrev pub IsGivenAlike : Findings → Findings → Choice → Type 0
+IsGivenAlike f g ch = f.is_given (choice_name ch) ≡ g.is_given (choice_name ch)
 
--- the name of a module is wanted by `--name` of `circuit` alone
-abbrev pub names_circuit : Text → Choice → Bool
-names_circuit command (switch name) = true
-names_circuit command (numbered name least most default) = true
-names_circuit command (named name default) = bytes_eq command (codes "circuit") && bytes_eq name (codes "name")
+-- a command of this name has this job, or it is `circuit` and what is found is unfit
+abbrev pub HasJobOf : Text → Findings → Option JobTree → Type 0
+HasJobOf name f o = HasJob o ⊎ ((name ≡ codes "circuit") × IsUnfit f)
 
 -- an operand that has to be there is
 abbrev pub IsThere : List Row → Operand → Type 0
@@ -92,10 +87,10 @@ pub record IsReady (c : CommandRow) : Type 0 where
   pub checked : (rows : List Row) → AllByRecursion (IsThere rows) c.operands → check_fault (leaf c) rows false ≡ []
   pub asks : (rows : List Row) → check_fault (leaf c) rows false ≡ [] → AllByRecursion (IsThere rows) c.operands
   -- its job is of what is found for its arguments, and within the limits
-  pub same : (f g : Findings) → AllByRecursion (IsSameAt f g) c.operands → AllByRecursion (IsSameFor f g) c.choices → c.job f ≡ c.job g
-  pub names : list_all (names_circuit c.name) c.choices ≡ true
+  pub same : (f g : Findings) → AllByRecursion (IsSameAt f g) c.operands → AllByRecursion (IsSameFor f g) c.choices
+      → AllByRecursion (IsGivenAlike f g) c.choices → c.job f ≡ c.job g
   pub has_job : (f : Findings) → AllByRecursion (IsFoundAt f) c.operands → AllByRecursion (IsFoundFor f) c.choices
-      → AllByRecursion (IsNamedFor f) c.choices → HasJob (c.job f)
+      → HasJobOf c.name f (c.job f)
 
 -- a command that is ready knows its options
 pub knows : (c : CommandRow) → IsReady c → AllByRecursion (IsKnown (leaf c) c.operands c.choices) c.choices

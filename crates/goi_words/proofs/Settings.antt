@@ -14,7 +14,7 @@ use Rattle.clap.specs.Simple.{Shape, filled}
 use Rattle.goi_words.specs.Commands.{Choice, Operand, choice_name, choice_rule, flag, named, number_option, numbered, operand_name, switch}
 use Rattle.goi_words.specs.Commands.{text_option}
 use Rattle.goi_words.specs.Findings.{◌>>=◌}
-use Rattle.goi_words.specs.Asked.{number_in}
+use Rattle.goi_words.specs.Asked.{is_from_words, number_in}
 use Rattle.goi_words.specs.Plain.{AreDistinct, IsOption, Setting, Takes, Value, number, numbers, option_words, setting_words, text}
 use Rattle.goi_words.proofs.Decimals.{decimal_passes, decimal_value}
 use Rattle.goi_words.proofs.Found.{found_in}
@@ -34,11 +34,15 @@ text_at row = option_and_then (λ r. slice_get r.values 0) row
 abbrev pub set_at : Option Row → Bool
 set_at row = option_map_or (λ text. bytes_eq text (codes "true")) (option_and_then row_text row) false
 
--- the numbers of an option have 32 bits, and the name that it is by default is a module's
+-- the row comes from the words
+abbrev pub given_at : Option Row → Bool
+given_at row = is_from_words (option_and_then (λ r. r.source) row)
+
+-- the numbers of an option have 32 bits
 abbrev pub is_small : Choice → Bool
 is_small (switch name) = true
 is_small (numbered name least most default) = nat_lt most (2 ^ 32)
-is_small (named name default) = module_name default
+is_small (named name default) = true
 
 -- what is found of it where it isn't given
 abbrev pub IsDefault : Choice → Option Row → Type 0

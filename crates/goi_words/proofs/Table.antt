@@ -1,27 +1,29 @@
 -- Each command of the table is ready: its arguments are found where they stand, and its job is of what is found for them.
 -- A command more is one more of these; an option more is one more in `same` and, with a number, in `has_job`.
-use Rattle.std.proofs.Common.{◌≡◌, ◌∷◌, ◌||◌, ℕ, not, refl, cond, arith, Bool, true, false, [], codes, map}
+use Rattle.std.proofs.Common.{◌≡◌, ◌∙◌, ◌∷◌, ◌||◌, ℕ, ap, not, refl, cond, arith, inl, inr, Bool, true, false, None, Some, [], codes}
 use Rattle.std.specs.List.{AllByRecursion}
 use Rattle.clap.specs.Walk.{walked}
 use Rattle.clap.specs.Simple.{built}
 use Rattle.clap.specs.Faults.{defaults_fault}
 use Rattle.clap.specs.Takes.{is_given as is_row_given}
 use Rattle.goi_jobs.specs.Ranges.{IsBudget, IsCells, IsForks, IsWindow, IsWindowIfAny, IsWorkers}
-use Rattle.goi_jobs.specs.Jobs.{IsWithinLimits, JobTree, call, demo, list, replay, text, verilog}
+use Rattle.goi_jobs.specs.Jobs.{call, demo, list, replay, text, verilog}
 use Rattle.goi_jobs.specs.Tasks.{shown}
-use Rattle.goi_jobs.specs.declared.task.Task.TheVariants.{Check, NeedsCircuit, Run, RunCircuit, RunNet, ScheduleCircuit, ShowNet, Span}
-use Rattle.goi_jobs.specs.declared.task.Task.TheVariants.{Steps, Trace}
-use Rattle.goi_jobs.specs.declared.verilog.Verilog.TheVariants.{Bench, Circuit}
+use Rattle.goi_jobs.specs.Verilogs.{IsPrinted}
+use Rattle.goi_jobs.specs.declared.task.Task.TheVariants.{Check, Run, RunNet, ShowNet, Span, Steps, Trace}
+use Rattle.goi_jobs.specs.declared.verilog.Verilog.{Verilog}
+use Rattle.goi_jobs.specs.declared.verilog.Verilog.TheVariants as printed
 use Rattle.goi_jobs.specs.declared.window.Window.{Window}
-use Rattle.goi_words.specs.Commands.{batch_row, call_row, calling_in, check_row, circuit_asked, circuit_row, commands, demo_row}
-use Rattle.goi_words.specs.Commands.{goi_command, if_traced, net_row, replay_row, run_net_row, run_row, span_row, steps_row, trace_row}
+use Rattle.goi_words.specs.Findings.{Findings, ◌>>=◌}
+use Rattle.goi_words.specs.Commands.{all_go_with, batch_row, call_row, calling_in, check_row, circuit_asked, circuit_in, circuit_job}
+use Rattle.goi_words.specs.Commands.{circuit_row, commands, demo_row, goi_command, if_module_name, if_traced, name_in, net_row, no_module}
+use Rattle.goi_words.specs.Commands.{no_use, replay_row, run_net_row, run_row, span_row, steps_row, trace_row}
 use Rattle.clap.specs.declared.error.kind.ErrorKind.TheVariants as kind
-use Rattle.goi_words.proofs.Ready.{IsReady, leaf}
-use Rattle.goi_words.proofs.Settings.{facts, wanted}
+use Rattle.goi_words.proofs.Ready.{HasJobOf, IsReady, leaf}
 use Rattle.goi_words.proofs.Taken.{asked}
 use Rattle.goi_words.proofs.Tops.{Enters}
 use Rattle.clap.specs.Words.{Text}
-use Rattle.verilog_names.specs.Name.{module_name, reserved}
+use Rattle.verilog_names.specs.Name.{module_name}
 
 -- the last check asks for two operands
 both_asked : (g h : Bool) → cond (not g || (not h || false)) (kind.MissingRequiredArgument ∷ []) [] ≡ [] → (g ≡ true) × (h ≡ true)
@@ -51,12 +53,11 @@ run_ready = record {
   placed = (refl, refl, tt, tt, refl, tt);
   own = ((refl, refl), tt);
   known = refl;
-  names = refl;
   defaults = refl;
   checked = λ rows there. rw there.0 refl;
   asks = λ rows clean. ((asked (is_row_given (codes "file") rows) false clean).0, tt);
-  same = λ f g os cs. rw (os.0, cs.0, cs.1.0, cs.1.1.0, cs.1.1.1.0, cs.1.1.1.1.0, cs.1.1.1.1.1.0) refl;
-  has_job = λ f os cs ns. let file = os.0 in let workers = cs.0 in let budget = cs.1.0 in (
+  same = λ f g os cs gs. rw (os.0, cs.0, cs.1.0, cs.1.1.0, cs.1.1.1.0, cs.1.1.1.1.0, cs.1.1.1.1.1.0) refl;
+  has_job = λ f os cs. let file = os.0 in let workers = cs.0 in let budget = cs.1.0 in inl (
     text file.0 workers.0
         (Run budget.0 (calling_in f) (shown (f.is_set (codes "schedule")) (f.is_set (codes "tally")) (f.is_set (codes "progress")))),
     rw (file.1, workers.1, budget.1) refl,
@@ -77,12 +78,11 @@ check_ready = record {
   placed = (refl, refl, tt, tt, refl, tt);
   own = ((refl, refl), tt);
   known = refl;
-  names = refl;
   defaults = refl;
   checked = λ rows there. rw there.0 refl;
   asks = λ rows clean. ((asked (is_row_given (codes "file") rows) false clean).0, tt);
-  same = λ f g os cs. rw (os.0, cs.0) refl;
-  has_job = λ f os cs ns. let file = os.0 in (
+  same = λ f g os cs gs. rw (os.0, cs.0) refl;
+  has_job = λ f os cs. let file = os.0 in inl (
     text file.0 1 (Check (f.is_set (codes "term"))),
     rw (file.1) refl,
     (one_worker, tt),
@@ -102,12 +102,11 @@ net_ready = record {
   placed = (refl, refl, tt, tt, refl, tt);
   own = ((refl, refl), tt);
   known = refl;
-  names = refl;
   defaults = refl;
   checked = λ rows there. rw there.0 refl;
   asks = λ rows clean. ((asked (is_row_given (codes "file") rows) false clean).0, tt);
-  same = λ f g os cs. rw (os.0) refl;
-  has_job = λ f os cs ns. let file = os.0 in (
+  same = λ f g os cs gs. rw (os.0) refl;
+  has_job = λ f os cs. let file = os.0 in inl (
     text file.0 1 ShowNet,
     rw (file.1) refl,
     (one_worker, tt),
@@ -127,13 +126,12 @@ replay_ready = record {
   placed = (refl, refl, (refl, tt), tt, refl, (refl, refl, tt, tt, refl, tt));
   own = ((refl, refl), ((refl, refl), tt));
   known = refl;
-  names = refl;
   defaults = refl;
   checked = λ rows there. rw (there.0, there.1.0) refl;
   asks = λ rows clean.
       let both = both_asked (is_row_given (codes "file") rows) (is_row_given (codes "schedule") rows) clean in (both.0, (both.1, tt));
-  same = λ f g os cs. rw (os.0, os.1.0, cs.0, cs.1.0, cs.1.1.0) refl;
-  has_job = λ f os cs ns. let file = os.0 in let schedule = os.1.0 in let from = cs.1.0 in let most = cs.1.1.0 in (
+  same = λ f g os cs gs. rw (os.0, os.1.0, cs.0, cs.1.0, cs.1.1.0) refl;
+  has_job = λ f os cs. let file = os.0 in let schedule = os.1.0 in let from = cs.1.0 in let most = cs.1.1.0 in inl (
     replay file.0 schedule.0 (if_traced (f.is_set (codes "trace")) (record { from = from.0; most = most.0 })),
     rw (file.1, schedule.1, from.1, most.1) refl,
     asked_part (f.is_set (codes "trace")) (record { from = from.0; most = most.0 }) (from.3, (most.2, most.3)),
@@ -153,12 +151,11 @@ demo_ready = record {
   placed = (refl, refl, tt, tt, refl, tt);
   own = ((refl, refl), tt);
   known = refl;
-  names = refl;
   defaults = refl;
   checked = λ rows there. rw there.0 refl;
   asks = λ rows clean. ((asked (is_row_given (codes "n") rows) false clean).0, tt);
-  same = λ f g os cs. rw (os.0, cs.0) refl;
-  has_job = λ f os cs ns. let n = os.0 in let workers = cs.0 in (
+  same = λ f g os cs gs. rw (os.0, cs.0) refl;
+  has_job = λ f os cs. let n = os.0 in let workers = cs.0 in inl (
     demo n.0 workers.0,
     rw (n.1, workers.1) refl,
     (n.3, (workers.2, workers.3)),
@@ -178,12 +175,11 @@ run_net_ready = record {
   placed = (refl, refl, tt, tt, refl, tt);
   own = ((refl, refl), tt);
   known = refl;
-  names = refl;
   defaults = refl;
   checked = λ rows there. rw there.0 refl;
   asks = λ rows clean. ((asked (is_row_given (codes "file") rows) false clean).0, tt);
-  same = λ f g os cs. rw (os.0, cs.0, cs.1.0, cs.1.1.0, cs.1.1.1.0) refl;
-  has_job = λ f os cs ns. let file = os.0 in let workers = cs.0 in let budget = cs.1.0 in (
+  same = λ f g os cs gs. rw (os.0, cs.0, cs.1.0, cs.1.1.0, cs.1.1.1.0) refl;
+  has_job = λ f os cs. let file = os.0 in let workers = cs.0 in let budget = cs.1.0 in inl (
     text file.0 workers.0 (RunNet budget.0 (shown (f.is_set (codes "schedule")) (f.is_set (codes "tally")) false)),
     rw (file.1, workers.1, budget.1) refl,
     ((workers.2, workers.3), (budget.2, budget.3)),
@@ -203,12 +199,11 @@ batch_ready = record {
   placed = (refl, refl, tt, tt, refl, tt);
   own = ((refl, refl), tt);
   known = refl;
-  names = refl;
   defaults = refl;
   checked = λ rows there. rw there.0 refl;
   asks = λ rows clean. ((asked (is_row_given (codes "file") rows) false clean).0, tt);
-  same = λ f g os cs. rw (os.0, cs.0) refl;
-  has_job = λ f os cs ns. let file = os.0 in let workers = cs.0 in (
+  same = λ f g os cs gs. rw (os.0, cs.0) refl;
+  has_job = λ f os cs. let file = os.0 in let workers = cs.0 in inl (
     list file.0 workers.0,
     rw (file.1, workers.1) refl,
     (workers.2, workers.3),
@@ -228,45 +223,56 @@ trace_ready = record {
   placed = (refl, refl, tt, tt, refl, tt);
   own = ((refl, refl), tt);
   known = refl;
-  names = refl;
   defaults = refl;
   checked = λ rows there. rw there.0 refl;
   asks = λ rows clean. ((asked (is_row_given (codes "file") rows) false clean).0, tt);
-  same = λ f g os cs. rw (os.0, cs.0, cs.1.0, cs.1.1.0, cs.1.1.1.0, cs.1.1.1.1.0) refl;
-  has_job = λ f os cs ns.
-      let file = os.0 in let workers = cs.0 in let budget = cs.1.0 in let from = cs.1.1.1.0 in let most = cs.1.1.1.1.0 in (
+  same = λ f g os cs gs. rw (os.0, cs.0, cs.1.0, cs.1.1.0, cs.1.1.1.0, cs.1.1.1.1.0) refl;
+  has_job = λ f os cs.
+      let file = os.0 in let workers = cs.0 in let budget = cs.1.0 in let from = cs.1.1.1.0 in let most = cs.1.1.1.1.0 in inl (
         text file.0 workers.0 (Trace budget.0 (calling_in f) (record { from = from.0; most = most.0 })),
         rw (file.1, workers.1, budget.1, from.1, most.1) refl,
         ((workers.2, workers.3), ((budget.2, budget.3), (from.3, (most.2, most.3)))),
       );
 }
 
--- what `circuit` is asked for, by its flags
-abbrev by_flags : (needs scheduled bench run waves handshake : Bool) (file name : Text) (cells forks budget : ℕ) → JobTree
-by_flags needs scheduled bench run waves handshake file name cells forks budget =
-    cond needs (text file 1 (NeedsCircuit budget)) (cond scheduled (text file 1 (ScheduleCircuit budget))
-    (cond bench (verilog file name (Bench budget)) (cond run (text file 1 (RunCircuit cells forks budget waves))
-    (verilog file name (Circuit cells forks handshake)))))
+-- what is asked for of a circuit, by its flags
+abbrev by_flags : (run waves bench needs scheduled handshake : Bool) (cells forks budget : ℕ) → Verilog
+by_flags run waves bench needs scheduled handshake cells forks budget =
+    cond run (printed.Run cells forks budget) (cond waves (printed.Waves cells forks budget) (cond bench (printed.Bench budget)
+    (cond needs (printed.Needs budget) (cond scheduled (printed.Schedule budget) (printed.Circuit cells forks handshake)))))
 
--- with sizes and a budget in their ranges and the name of a module it is within the limits
-circuit_within : (needs scheduled bench run waves handshake : Bool) (file name : Text) (cells forks budget : ℕ) → IsCells cells
-    → IsForks forks → IsBudget budget → module_name name ≡ true
-    → IsWithinLimits (by_flags needs scheduled bench run waves handshake file name cells forks budget)
-circuit_within true scheduled bench run waves handshake file name cells forks budget s e b is = (one_worker, b)
-circuit_within false true bench run waves handshake file name cells forks budget s e b is = (one_worker, b)
-circuit_within false false true run waves handshake file name cells forks budget s e b is = (is, b)
-circuit_within false false false true waves handshake file name cells forks budget s e b is = (one_worker, (b, s, e))
-circuit_within false false false false waves handshake file name cells forks budget s e b is = (is, (s, e))
+-- with sizes and a budget in their ranges it can be printed
+asked_within : (run waves bench needs scheduled handshake : Bool) (cells forks budget : ℕ) → IsCells cells → IsForks forks
+    → IsBudget budget → IsPrinted (by_flags run waves bench needs scheduled handshake cells forks budget)
+asked_within true waves bench needs scheduled handshake cells forks budget s e b = (b, s, e)
+asked_within false true bench needs scheduled handshake cells forks budget s e b = (b, s, e)
+asked_within false false true needs scheduled handshake cells forks budget s e b = b
+asked_within false false false true scheduled handshake cells forks budget s e b = b
+asked_within false false false false true handshake cells forks budget s e b = b
+asked_within false false false false false handshake cells forks budget s e b = (s, e)
+
+-- what is found at `circuit` is a job, or it is unfit
+circuit_decided : (f : Findings) (file name : Text) (asked : Verilog) → f.text (codes "file") ≡ Some file
+    → f.text (codes "name") ≡ Some name → circuit_in f ≡ Some asked → IsPrinted asked → HasJobOf (codes "circuit") f (circuit_job f)
+circuit_decided f file name asked file_is name_is asked_is within = go (module_name name) (all_go_with f asked) refl refl
+  where
+    job_is : name_in f ≡ Some name → all_go_with f asked ≡ true → circuit_job f ≡ Some (verilog file name asked)
+    job_is named fits =
+        (λ i. file_is i >>= λ file. named i >>= λ name. asked_is i >>= λ asked.
+        cond (all_go_with f asked) (Some (verilog file name asked)) None)
+        ∙ ap (λ b. cond b (Some (verilog file name asked)) None) fits
+
+    go : (m u : Bool) → module_name name ≡ m → all_go_with f asked ≡ u → HasJobOf (codes "circuit") f (circuit_job f)
+    go false u nameless fits = inr (refl, no_module name name_is nameless)
+    go true false named unfit = inr (refl, no_use asked asked_is unfit)
+    go true true named fits =
+        let found = ap (λ o. o >>= if_module_name) name_is ∙ ap (λ b. cond b (Some name) None) named in
+        inl (verilog file name asked, job_is found fits, (named, within))
 
 -- `circuit` is entered by its name
 circuit_enters : Enters (built goi_command) (codes "circuit") (leaf circuit_row)
 unfolding walked defaults_fault
 circuit_enters = record { walk = refl; turn = refl; found = refl; defaults = refl; checked = refl }
-
--- it knows its options; the name that stands for a name is a module's
-circuit_known : map (facts (leaf circuit_row) circuit_row.operands circuit_row.choices) circuit_row.choices ≡ map wanted circuit_row.choices
-unfolding reserved
-circuit_known = refl
 
 -- and is ready
 pub circuit_ready : IsReady circuit_row
@@ -275,13 +281,13 @@ circuit_ready = record {
   job = λ rows. refl;
   placed = (refl, refl, tt, tt, refl, tt);
   own = ((refl, refl), tt);
-  known = circuit_known;
+  known = refl;
   defaults = refl;
   checked = λ rows there. rw there.0 refl;
   asks = λ rows clean. ((asked (is_row_given (codes "file") rows) false clean).0, tt);
-  names = refl;
-  same = λ f g os cs.
+  same = λ f g os cs gs.
       let others = cs.1.1.1.1.1.1 in
+      let later = gs.1.1.1.1.1.1 in
       rw (
         os.0,
         cs.0,
@@ -294,15 +300,24 @@ circuit_ready = record {
         others.1.0,
         others.1.1.0,
         others.1.1.1.0,
+        gs.0,
+        gs.1.0,
+        gs.1.1.0,
+        gs.1.1.1.0,
+        gs.1.1.1.1.0,
+        gs.1.1.1.1.1.0,
+        later.0,
+        later.1.0,
+        later.1.1.0,
+        later.1.1.1.0,
       ) refl;
-  has_job = λ f os cs ns.
-      let file = os.0 in let cells = cs.0 in let forks = cs.1.0 in let budget = cs.1.1.0 in let name = ns.1.1.1.1.1.1.1.0 in (
-        circuit_asked f file.0 name.0 cells.0 forks.0 budget.0,
-        rw (file.1, cells.1, forks.1, budget.1, name.1, name.2) refl,
-        circuit_within (f.is_set (codes "needs")) (f.is_set (codes "schedule")) (f.is_set (codes "bench")) (f.is_set (codes "run"))
-            (f.is_set (codes "vcd")) (f.is_set (codes "handshake")) file.0 name.0 cells.0 forks.0 budget.0
-            (cells.2, cells.3) (forks.2, forks.3) (budget.2, budget.3) name.2,
-      );
+  has_job = λ f os cs.
+      let file = os.0 in let cells = cs.0 in let forks = cs.1.0 in let budget = cs.1.1.0 in let name = cs.1.1.1.1.1.1.1.0 in
+      circuit_decided f file.0 name.0 (circuit_asked f cells.0 forks.0 budget.0) file.1 name.1
+      (λ i. cells.1 i >>= λ c. forks.1 i >>= λ e. budget.1 i >>= λ b. Some (circuit_asked f c e b))
+      (asked_within (f.is_set (codes "run")) (f.is_set (codes "vcd")) (f.is_set (codes "bench")) (f.is_set (codes "needs"))
+      (f.is_set (codes "schedule")) (f.is_set (codes "handshake")) cells.0 forks.0 budget.0
+      (cells.2, cells.3) (forks.2, forks.3) (budget.2, budget.3));
 }
 
 -- `span` is entered by its name
@@ -318,12 +333,11 @@ span_ready = record {
   placed = (refl, refl, tt, tt, refl, tt);
   own = ((refl, refl), tt);
   known = refl;
-  names = refl;
   defaults = refl;
   checked = λ rows there. rw there.0 refl;
   asks = λ rows clean. ((asked (is_row_given (codes "file") rows) false clean).0, tt);
-  same = λ f g os cs. rw (os.0, cs.0, cs.1.0, cs.1.1.0, cs.1.1.1.0) refl;
-  has_job = λ f os cs ns. let file = os.0 in let budget = cs.0 in (
+  same = λ f g os cs gs. rw (os.0, cs.0, cs.1.0, cs.1.1.0, cs.1.1.1.0) refl;
+  has_job = λ f os cs. let file = os.0 in let budget = cs.0 in inl (
     text file.0 1 (Span budget.0 (calling_in f) (f.is_set (codes "profile")) (f.is_set (codes "schedule"))),
     rw (file.1, budget.1) refl,
     (one_worker, (budget.2, budget.3)),
@@ -343,12 +357,11 @@ steps_ready = record {
   placed = (refl, refl, tt, tt, refl, tt);
   own = ((refl, refl), tt);
   known = refl;
-  names = refl;
   defaults = refl;
   checked = λ rows there. rw there.0 refl;
   asks = λ rows clean. ((asked (is_row_given (codes "file") rows) false clean).0, tt);
-  same = λ f g os cs. rw (os.0, cs.0, cs.1.0, cs.1.1.0) refl;
-  has_job = λ f os cs ns. let file = os.0 in let budget = cs.0 in let from = cs.1.0 in let most = cs.1.1.0 in (
+  same = λ f g os cs gs. rw (os.0, cs.0, cs.1.0, cs.1.1.0) refl;
+  has_job = λ f os cs. let file = os.0 in let budget = cs.0 in let from = cs.1.0 in let most = cs.1.1.0 in inl (
     text file.0 1 (Steps budget.0 (record { from = from.0; most = most.0 })),
     rw (file.1, budget.1, from.1, most.1) refl,
     (one_worker, ((budget.2, budget.3), (from.3, (most.2, most.3)))),
@@ -368,12 +381,11 @@ call_ready = record {
   placed = (refl, refl, (refl, tt), tt, refl, (refl, refl, tt, refl, refl, tt));
   own = ((refl, refl), ((refl, refl), tt));
   known = refl;
-  names = refl;
   defaults = refl;
   checked = λ rows there. rw there.0 refl;
   asks = λ rows clean. ((asked (is_row_given (codes "file") rows) false clean).0, (tt, tt));
-  same = λ f g os cs. rw (os.0, os.1.0, cs.0, cs.1.0, cs.1.1.0, cs.1.1.1.0) refl;
-  has_job = λ f os cs ns. let file = os.0 in let n = os.1.0 in let workers = cs.0 in let budget = cs.1.0 in (
+  same = λ f g os cs gs. rw (os.0, os.1.0, cs.0, cs.1.0, cs.1.1.0, cs.1.1.1.0) refl;
+  has_job = λ f os cs. let file = os.0 in let n = os.1.0 in let workers = cs.0 in let budget = cs.1.0 in inl (
     call file.0 n.0 workers.0 budget.0 (f.is_set (codes "schedule")) (f.is_set (codes "tally")),
     rw (file.1, n.1, workers.1, budget.1) refl,
     ((workers.2, workers.3), (budget.2, budget.3)),

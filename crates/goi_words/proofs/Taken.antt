@@ -1,8 +1,8 @@
 -- Words that `clap` takes ask for a job.
 use Rattle.std.proofs.Common.{◌≡◌, ◌∙◌, ◌∷◌, ◌<◌, ◌≤◌, ◌^◌, ap, cond, length, refl, subst, sym, ℕ, Bool, true, false, List, [], Option}
-use Rattle.std.proofs.Common.{Some, None, codes, inl, inr, not, ◌⊎◌, ◌&&◌, ◌||◌, ◌++◌, ◌+◌, map, min, option_map, unwrap_or}
-use Rattle.std.proofs.lemmas.Bool.{ltb-true, and_parts}
-use Rattle.std.specs.List.{AllByRecursion, fold, list_all}
+use Rattle.std.proofs.Common.{Some, None, codes, inl, inr, not, ◌||◌, ◌++◌, ◌+◌, map, min, option_map, unwrap_or}
+use Rattle.std.proofs.lemmas.Bool.{ltb-true}
+use Rattle.std.specs.List.{AllByRecursion, fold}
 use Rattle.std.specs.Option.{option_map_or, option_or}
 use Rattle.std.specs.Prelude.{pos, slice_get}
 use Rattle.std.specs.Str.{bytes_eq}
@@ -32,11 +32,10 @@ use Rattle.goi_words.specs.Asked.{findings, job_on, number_in, number_of, number
 use Rattle.goi_words.proofs.Found.{AreSound, AreTame, IsSound, IsTame, none_else, one_rule, settled_sound, values_sound, walk_sound}
 use Rattle.goi_words.proofs.Numbers.{reads_itself}
 use Rattle.goi_words.proofs.Operands.{ArePlaced, rule_at}
-use Rattle.goi_words.proofs.Ready.{HasJob, IsFoundAt, IsFoundFor, IsNamedFor, IsReady, IsThere, cleanly, knows, leaf, names_circuit}
+use Rattle.goi_words.proofs.Ready.{HasJobOf, IsFoundAt, IsFoundFor, IsReady, IsThere, cleanly, knows, leaf}
 use Rattle.goi_words.proofs.Settings.{IsKnown}
 use Rattle.goi_words.proofs.Wide.{passed_numbers}
 use Rattle.goi_words.proofs.Rows.{HasCleanDefaults, Replaces, default_row, row_after, row_at}
-use Rattle.verilog_names.specs.Name.{module_name}
 
 -- ---- values that passed
 
@@ -340,11 +339,11 @@ module _ (sh : Shape) (os0 : List Operand) (cs0 : List Choice) where
   )
 
 -- what the arguments of a command ask for is found, where it takes its words
-record AreFound (c : CommandRow) (f : Findings) : Type 0 where
-  operands : AllByRecursion (IsFoundAt f) c.operands
-  choices : AllByRecursion (IsFoundFor f) c.choices
+pub record AreFound (c : CommandRow) (f : Findings) : Type 0 where
+  pub operands : AllByRecursion (IsFoundAt f) c.operands
+  pub choices : AllByRecursion (IsFoundFor f) c.choices
 
-all_found : (c : CommandRow) → IsReady c → (words : List Text) → level_fault (leaf c) [] nothing_held words false [] ≡ []
+pub all_found : (c : CommandRow) → IsReady c → (words : List Text) → level_fault (leaf c) [] nothing_held words false [] ≡ []
     → AreFound c (findings (rows_after (leaf c).rules [] words))
 all_found c ready words clean =
     let rows = rows_after (leaf c).rules [] words in
@@ -355,64 +354,21 @@ all_found c ready words clean =
       choices = choices_found (leaf c) c.operands c.choices words found.sound c.choices (knows c ready);
     }
 
--- a command that takes its words has a job, where the name of a module that it wants is one
-pub named_has_job : (c : CommandRow) → IsReady c → (words : List Text) → level_fault (leaf c) [] nothing_held words false [] ≡ []
-    → AllByRecursion (IsNamedFor (findings (rows_after (leaf c).rules [] words))) c.choices
-    → HasJob (job_on c.name (rows_after (leaf c).rules [] words))
-named_has_job c ready words clean right =
-    let rows = rows_after (leaf c).rules [] words in
-    let found = all_found c ready words clean in
-    let has = ready.has_job (findings rows) found.operands found.choices right in
-    (has.0, ready.job rows ∙ has.1, has.2)
+-- what is found at the name of a command is a job, or it is unfit
+abbrev pub IsDecided : Text → List Row → Type 0
+IsDecided name rows = HasJobOf name (findings rows) (job_on name rows)
 
--- the command is `circuit`, and the name that is found there is no module's
-pub record IsMisnamed (command : Text) (rows : List Row) : Type 0 where
-  pub circuit : command ≡ codes "circuit"
-  pub name : Text
-  pub found : text_of (codes "name") rows ≡ Some name
-  pub no_module : module_name name ≡ false
-
--- the names of modules are some, or one that is found is none
-named_or_not : (command : Text) (rows : List Row) (cs : List Choice) → list_all (names_circuit command) cs ≡ true
-    → AllByRecursion (IsFoundFor (findings rows)) cs → AllByRecursion (IsNamedFor (findings rows)) cs ⊎ IsMisnamed command rows
-named_or_not command rows [] names found = inl tt
-named_or_not command rows (switch name ∷ cs) names found = elim (named_or_not command rows cs names found.1) [
-  | inl all ↦ inl (tt, all)
-  | inr bad ↦ inr bad
-]
-named_or_not command rows (numbered name least most default ∷ cs) names found = elim (named_or_not command rows cs names found.1) [
-  | inl all ↦ inl (tt, all)
-  | inr bad ↦ inr bad
-]
-named_or_not command rows (named name default ∷ cs) names found =
-    let parts = and_parts (bytes_eq command (codes "circuit") && bytes_eq name (codes "name")) _ names in
-    let here = and_parts (bytes_eq command (codes "circuit")) (bytes_eq name (codes "name")) parts.0 in
-    go (module_name found.0.0) refl here.0 here.1 (named_or_not command rows cs parts.1 found.1)
-  where
-    go : (b : Bool) → module_name found.0.0 ≡ b → bytes_eq command (codes "circuit") ≡ true → bytes_eq name (codes "name") ≡ true
-        → AllByRecursion (IsNamedFor (findings rows)) cs ⊎ IsMisnamed command rows
-        → AllByRecursion (IsNamedFor (findings rows)) (named name default ∷ cs) ⊎ IsMisnamed command rows
-    go false is circuit called rest = inr (record {
-      circuit = (bytes_eq-Decides command (codes "circuit")).0 circuit;
-      name = found.0.0;
-      found = subst (λ n. text_of n rows ≡ Some found.0.0) ((bytes_eq-Decides name (codes "name")).0 called) found.0.1;
-      no_module = is;
-    })
-    go true is circuit called rest = elim rest [
-      | inl all ↦ inl ((found.0.0, found.0.1, is), all)
-      | inr bad ↦ inr bad
-    ]
-
--- a command that takes its words has a job, or its name is none
+-- so it is where the command takes its words
 abbrev pub TakenHasJob : CommandRow → Type 0
 TakenHasJob c = (words : List Text) → level_fault (leaf c) [] nothing_held words false [] ≡ []
-    → HasJob (job_on c.name (rows_after (leaf c).rules [] words)) ⊎ IsMisnamed c.name (rows_after (leaf c).rules [] words)
+    → IsDecided c.name (rows_after (leaf c).rules [] words)
 
--- so has each that is ready
+-- and is ready
 pub taken_has_job : (c : CommandRow) → IsReady c → TakenHasJob c
 taken_has_job c ready words clean =
     let rows = rows_after (leaf c).rules [] words in
-    elim (named_or_not c.name rows c.choices ready.names (all_found c ready words clean).choices) [
-      | inl right ↦ inl (named_has_job c ready words clean right)
+    let found = all_found c ready words clean in
+    elim (ready.has_job (findings rows) found.operands found.choices) [
+      | inl has ↦ inl (has.0, ready.job rows ∙ has.1, has.2)
       | inr bad ↦ inr bad
     ]

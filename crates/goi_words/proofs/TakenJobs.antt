@@ -1,4 +1,4 @@
--- Words that `clap` takes ask for a job, whose numbers are in range, unless they call a circuit's module by a name that it can't have.
+-- Words that `clap` takes ask for a job, whose numbers are in range, unless they enter `circuit` with what is unfit.
 use Rattle.std.proofs.Common.{◌≡◌, ◌∙◌, ◌∷◌, cond, refl, subst, sym, Bool, true, false, List, [], Option}
 use Rattle.std.proofs.Common.{Some, None, ap, codes, inl, inr, is_some, map, option_map, ◌⊎◌}
 use Rattle.std.specs.List.{AllByRecursion, find}
@@ -8,18 +8,19 @@ use Rattle.clap.specs.Simple.{App, Shape, argument_words, built, entered, label_
 use Rattle.clap.specs.Words.{subcommand_of}
 use Rattle.clap.specs.Faults.{check_fault, defaults_fault, entered_fault, fault_of, level_fault, settle_fault, walk_fault}
 use Rattle.clap.specs.Kinds.{Kinds}
-use Rattle.goi_words.specs.Commands.{CommandRow, circuit_job, commands, goi_command}
+use Rattle.goi_words.specs.Commands.{CommandRow, IsUnfit, all_go_with, circuit_in, circuit_job, commands, goi_command, if_module_name}
+use Rattle.goi_words.specs.Commands.{name_in, no_module, no_use}
 use Rattle.goi_words.specs.Findings.{Findings, ◌>>=◌}
-use Rattle.goi_words.specs.Asked.{NamesNoModule, findings, is_faultless, is_taken, job, job_on}
-use Rattle.goi_jobs.specs.Jobs.{IsWithinLimits, JobTree}
+use Rattle.goi_words.specs.Asked.{AreUnfit, findings, is_faultless, is_taken, job, job_on}
+use Rattle.goi_jobs.specs.Jobs.{IsWithinLimits, JobTree, verilog}
+use Rattle.goi_jobs.specs.declared.verilog.Verilog.{Verilog}
 use Rattle.goi_words.specs.Laws.{TakenWordsHaveAJob}
 use Rattle.goi_words.proofs.Entering.{entered_job as job_by}
 use Rattle.goi_words.proofs.Found.{found_in, none_else}
 use Rattle.goi_words.proofs.Agreeing.{each}
-use Rattle.goi_words.proofs.Ready.{HasJob, leaf}
+use Rattle.goi_words.proofs.Ready.{leaf}
 use Rattle.goi_words.proofs.Table.{all_ready, circuit_ready}
-use Rattle.goi_words.proofs.Taken.{IsMisnamed, TakenHasJob, taken_has_job}
-use Rattle.verilog_names.specs.Name.{module_name}
+use Rattle.goi_words.proofs.Taken.{IsDecided, TakenHasJob, taken_has_job}
 
 -- ---- the first level
 
@@ -27,10 +28,10 @@ use Rattle.verilog_names.specs.Name.{module_name}
 abbrev whole : App
 whole = built goi_command
 
--- a subcommand that takes its words has a job, or is called with what is refused
+-- a subcommand that takes its words has a job, or what it is called with is unfit
 abbrev HasJobs : Shape → Type 0
 HasJobs s = (words : List Text) → level_fault s [] nothing_held words false [] ≡ []
-    → HasJob (job_on s.name (rows_after s.rules [] words)) ⊎ IsMisnamed s.name (rows_after s.rules [] words)
+    → IsDecided s.name (rows_after s.rules [] words)
 
 -- so it is with each subcommand
 each_has_a_job : AllByRecursion HasJobs whole.subs
@@ -47,14 +48,14 @@ asks_for_one rows false checked = cc
 
 -- and with the one that is entered
 entered_job : (stop : Option (Text × List Text)) → entered_fault whole stop ≡ [] → is_some (entered whole stop) ≡ true
-    → (p : Text × List Row) × (entered whole stop ≡ Some p) × (HasJob (job_on p.0 p.1) ⊎ IsMisnamed p.0 p.1)
+    → (p : Text × List Row) × (entered whole stop ≡ Some p) × IsDecided p.0 p.1
 entered_job None clean met = cc
 entered_job (Some stop) clean met = go (find (λ s. answers_to stop.0 (label_of s)) whole.subs) refl clean met
   where
     go : (o : Option Shape) → find (λ s. answers_to stop.0 (label_of s)) whole.subs ≡ o
         → option_map_or (λ s. level_fault s [] nothing_held stop.1 false []) o [] ≡ []
         → is_some (option_map (λ s. rows_at s stop.1) o) ≡ true
-        → (p : Text × List Row) × (option_map (λ s. rows_at s stop.1) o ≡ Some p) × (HasJob (job_on p.0 p.1) ⊎ IsMisnamed p.0 p.1)
+        → (p : Text × List Row) × (option_map (λ s. rows_at s stop.1) o ≡ Some p) × IsDecided p.0 p.1
     go None is clean met = cc
     go (Some s) is clean met =
         (rows_at s stop.1, refl, found_in HasJobs (λ t. answers_to stop.0 (label_of t)) whole.subs s each_has_a_job is stop.1 clean)
@@ -64,17 +65,24 @@ none_after : {A B : Type 0} (o : Option A) (f : A → Option B) → ((x : A) →
 none_after None f none = refl
 none_after (Some x) f none = none x
 
--- a name that is no module's leaves `circuit` without a job
-no_circuit : (f : Findings) (name : Text) → f.text (codes "name") ≡ Some name → module_name name ≡ false → circuit_job f ≡ None
-no_circuit f name found no_module =
-    none_after (f.text (codes "file")) _ (λ file. none_after (f.number (codes "cells")) _ (λ cells. none_after (f.number (codes "forks")) _
-    (λ forks. none_after (f.number (codes "budget")) _ (λ budget. rw (found, no_module) refl))))
+-- the last step to the job of `circuit`
+abbrev then : Findings → (file name : Text) → Verilog → Option JobTree
+then f file name asked = cond (all_go_with f asked) (Some (verilog file name asked)) None
+
+-- what is unfit leaves `circuit` without a job
+no_circuit : (f : Findings) → IsUnfit f → circuit_job f ≡ None
+no_circuit f (no_module name found is) =
+    let none : name_in f ≡ None = ap (λ o. o >>= if_module_name) found ∙ ap (λ b. cond b (Some name) None) is in
+    none_after (f.text (codes "file")) _ (λ file. ap (λ (o : Option Text). o >>= λ n. circuit_in f >>= then f file n) none)
+no_circuit f (no_use asked found is) =
+    none_after (f.text (codes "file")) _ (λ file. none_after (name_in f) _ (λ name.
+    ap (λ (o : Option Verilog). o >>= then f file name) found ∙ ap (λ b. cond b (Some (verilog file name asked)) None) is))
 
 -- and so are its words refused
-misnamed_refused : (words : List Text) → fault_of goi_command words ≡ [] → NamesNoModule words → job words ≡ None
-misnamed_refused words clean bad =
+unfit_refused : (words : List Text) → fault_of goi_command words ≡ [] → AreUnfit words → job words ≡ None
+unfit_refused words clean bad =
     job_by words (Some (codes "circuit", bad.rows)) clean (sym bad.entered) ∙ circuit_ready.job bad.rows
-    ∙ no_circuit (findings bad.rows) bad.name bad.found bad.no_module
+    ∙ no_circuit (findings bad.rows) bad.unfit
 
 -- a list of kinds without one is empty
 faultless : (k : Kinds) → is_faultless k ≡ true → k ≡ []
@@ -96,26 +104,24 @@ taken_words_have_a_job words taken =
     elim found.2 [
       | inl has ↦ inl (has.0, job_by words (Some found.0) clean (sym found.1) ∙ has.1, has.2)
       | inr bad ↦
-          let named : NamesNoModule words = record {
+          let unfit : AreUnfit words = record {
             rows = found.0.1;
-            entered = found.1 ∙ ap (λ n. Some (n, found.0.1)) bad.circuit;
-            name = bad.name;
-            found = bad.found;
-            no_module = bad.no_module;
+            entered = found.1 ∙ ap (λ n. Some (n, found.0.1)) bad.0;
+            unfit = bad.1;
           } in
-          inr (named, misnamed_refused words clean named)
+          inr (unfit, unfit_refused words clean unfit)
     ]
 
 -- ---- what follows
 
--- words are refused by `clap`, or for a name that is no module's
-pub why_refused : (words : List Text) → job words ≡ None → (is_taken words ≡ false) ⊎ NamesNoModule words
+-- words are refused by `clap`, or since they are unfit
+pub why_refused : (words : List Text) → job words ≡ None → (is_taken words ≡ false) ⊎ AreUnfit words
 why_refused words is = go (is_taken words) refl
   where
     some : (done : JobTree) → job words ≡ Some done → ⊥
     some done has = let both : None ≡ Some done = sym is ∙ has in cc
 
-    go : (b : Bool) → is_taken words ≡ b → (is_taken words ≡ false) ⊎ NamesNoModule words
+    go : (b : Bool) → is_taken words ≡ b → (is_taken words ≡ false) ⊎ AreUnfit words
     go false taken = inl taken
     go true taken = elim (taken_words_have_a_job words taken) [
       | inl has ↦ absurd (some has.0 has.1)

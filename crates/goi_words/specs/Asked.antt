@@ -3,15 +3,17 @@
 -- which subcommand they enter and what stands there for each argument, a default where the words say nothing. The job is read off
 -- from that, so that words mean here what they mean to every other program of the same command line.
 use Rattle.std.specs.Prelude.{◌≡◌, ℕ, Bool, true, false, ◌&&◌, ◌^◌, List, [], ◌∷◌, Option, None, Some, if◌then◌else◌, codes, nat_lt}
+use Rattle.std.specs.Prelude.{find, option_and_then}
 use Rattle.std.specs.Option.{option_map_or, unwrap_or}
 use Rattle.std.specs.Str.{bytes_eq}
 use Rattle.std.specs.Str.Parse.{digits_value, without_leading_plus}
 use Rattle.clap.specs.ValueTests.{is_numeral}
+use Rattle.clap.specs.declared.parser.matches.ValueSource.{ValueSource}
+use Rattle.clap.specs.declared.parser.matches.ValueSource.TheVariants.{CommandLine, DefaultValue}
 use Rattle.clap.specs.Words.{Kinds, Row, Text, all_of, fault_of, first_of, one_of, subcommand_of}
 use Rattle.goi_words.specs.Findings.{Findings, ◌>>=◌}
-use Rattle.goi_words.specs.Commands.{CommandRow, commands, goi_command}
+use Rattle.goi_words.specs.Commands.{CommandRow, IsUnfit, commands, goi_command}
 use Rattle.goi_jobs.specs.Jobs.{JobTree}
-use Rattle.verilog_names.specs.Name.{module_name}
 
 -- the number that a text spells, where it is below 2 ^ 32; one plus may stand before the digits
 abbrev pub number_in : Text → Option ℕ
@@ -49,6 +51,16 @@ numbers_of name rows = wide_numbers_in (unwrap_or (all_of name rows) [])
 abbrev pub is_set : Text → List Row → Bool
 is_set name rows = option_map_or (λ text. bytes_eq text (codes "true")) (one_of name rows) false
 
+-- what was found comes from the words, and is no default
+abbrev pub is_from_words : Option ValueSource → Bool
+is_from_words None = false
+is_from_words (Some DefaultValue) = false
+is_from_words (Some CommandLine) = true
+
+-- an argument is given
+abbrev pub is_given : Text → List Row → Bool
+is_given name rows = is_from_words (option_and_then (λ r. r.source) (find (λ r. bytes_eq r.id name) rows))
+
 -- all that was found
 abbrev pub findings : List Row → Findings
 findings rows = record {
@@ -56,6 +68,7 @@ findings rows = record {
   number = λ name. number_of name rows;
   numbers = λ name. numbers_of name rows;
   is_set = λ name. is_set name rows;
+  is_given = λ name. is_given name rows;
 }
 
 -- the job of the command of this name
@@ -75,13 +88,11 @@ is_faultless (kind ∷ kinds) = false
 abbrev pub is_taken : List Text → Bool
 is_taken words = is_faultless (fault_of goi_command words)
 
--- the words enter `circuit`, and the name that is found there is no module's
-pub record NamesNoModule (words : List Text) : Type 0 where
+-- the words enter `circuit`, and what was found there asks for nothing
+pub record AreUnfit (words : List Text) : Type 0 where
   pub rows : List Row
   pub entered : subcommand_of goi_command words ≡ Some (codes "circuit", rows)
-  pub name : Text
-  pub found : text_of (codes "name") rows ≡ Some name
-  pub no_module : module_name name ≡ false
+  pub unfit : IsUnfit (findings rows)
 
 -- the job of a list of words, or none where the words are refused
 unfoldable pub job : List Text → Option JobTree

@@ -3,7 +3,9 @@
 -- of subcommands, and no option has a rule of `clap`'s on another, so that `clap`'s definition says exactly which words are taken and what
 -- was found. Help is switched off: the words for it are unknown words and are refused as such. What is added later stands at the end of
 -- its list.
-use Rattle.std.specs.Prelude.{ℕ, Bool, true, false, pos, List, [], ◌∷◌, ◌++◌, Option, None, Some, if◌then◌else◌, codes, map}
+use Rattle.std.specs.Prelude.{◌≡◌, ℕ, Bool, true, false, not, ◌||◌, pos, List, [], ◌∷◌, ◌++◌, Option, None, Some, if◌then◌else◌, codes, map}
+use Rattle.std.specs.List.{list_all, list_any}
+use Rattle.std.specs.Str.{bytes_eq}
 use Rattle.clap.specs.Words.{App, Rule, Shape, Text, new_rule}
 use Rattle.clap.specs.Lexer.{usize_max}
 use Rattle.clap.specs.Simple.{new_shape}
@@ -11,9 +13,9 @@ use Rattle.pcf_values.specs.Most.{most_workers, most_budget, most_demo, most_mov
 use Rattle.goi_jobs.specs.Limits.{most_traced, most_told, most_cells, most_forks}
 use Rattle.goi_jobs.specs.Jobs.{JobTree, text, replay, list, demo, call, verilog}
 use Rattle.goi_jobs.specs.Tasks.{shown}
-use Rattle.goi_jobs.specs.declared.task.Task.TheVariants.{Run, Check, ShowNet, RunNet, Trace, RunCircuit}
-use Rattle.goi_jobs.specs.declared.task.Task.TheVariants.{NeedsCircuit, ScheduleCircuit, Span, Steps}
-use Rattle.goi_jobs.specs.declared.verilog.Verilog.TheVariants.{Circuit, Bench}
+use Rattle.goi_jobs.specs.declared.task.Task.TheVariants.{Run, Check, ShowNet, RunNet, Trace, Span, Steps}
+use Rattle.goi_jobs.specs.declared.verilog.Verilog.{Verilog}
+use Rattle.goi_jobs.specs.declared.verilog.Verilog.TheVariants as printed
 use Rattle.goi_jobs.specs.declared.window.Window.{Window}
 use Rattle.program_runs.specs.Programs.{calling_of}
 use Rattle.program_runs.specs.declared.calling.Calling.{Calling}
@@ -139,15 +141,15 @@ most_choice = numbered (codes "most") 1 most_traced (codes "100000")
 abbrev pub told_choice : Choice
 told_choice = numbered (codes "most") 1 most_told (codes "1000")
 
--- the cells of a circuit
+-- the options of `circuit`: its cells
 abbrev pub cells_choice : Choice
 cells_choice = numbered (codes "cells") 1 most_cells (codes "1023")
 
--- the forks of a circuit
+-- its forks
 abbrev pub forks_choice : Choice
 forks_choice = numbered (codes "forks") 1 most_forks (codes "63")
 
--- the name of a circuit's module
+-- the name of its module
 abbrev pub name_choice : Choice
 name_choice = named (codes "name") (codes "goi")
 
@@ -184,19 +186,56 @@ if_module_name name = if module_name name then Some name else None
 abbrev pub name_in : Findings → Option Text
 name_in found = found.text (codes "name") >>= if_module_name
 
--- what a circuit needs where that is asked for, and else who moves in its run where that is, and else a bench for it where that is, and
--- else its run where that is, and else the circuit
-abbrev pub circuit_asked : Findings → (file name : Text) → (cells forks budget : ℕ) → JobTree
-circuit_asked found file name cells forks budget =
-    if found.is_set (codes "needs") then text file 1 (NeedsCircuit budget)
-    else (if found.is_set (codes "schedule") then text file 1 (ScheduleCircuit budget)
-    else (if found.is_set (codes "bench") then verilog file name (Bench budget)
-    else (if found.is_set (codes "run") then text file 1 (RunCircuit cells forks budget (found.is_set (codes "vcd")))
-    else verilog file name (Circuit cells forks (found.is_set (codes "handshake"))))))
+-- ---- what `circuit` prints
+
+-- its options
+abbrev pub circuit_choices : List Choice
+circuit_choices = cells_choice ∷ forks_choice ∷ budget_choice ∷ switch (codes "run") ∷ switch (codes "vcd") ∷ switch (codes "needs")
+    ∷ schedule_choice ∷ name_choice ∷ switch (codes "handshake") ∷ switch (codes "bench") ∷ []
+
+-- what is asked for by the flag of one of these, and else the circuit itself
+abbrev pub circuit_asked : Findings → (cells forks budget : ℕ) → Verilog
+circuit_asked found cells forks budget =
+    if found.is_set (codes "run") then printed.Run cells forks budget
+    else (if found.is_set (codes "vcd") then printed.Waves cells forks budget
+    else (if found.is_set (codes "bench") then printed.Bench budget
+    else (if found.is_set (codes "needs") then printed.Needs budget
+    else (if found.is_set (codes "schedule") then printed.Schedule budget
+    else printed.Circuit cells forks (found.is_set (codes "handshake"))))))
+
+-- the same with the numbers that were found
+abbrev pub circuit_in : Findings → Option Verilog
+circuit_in found = do
+  cells ← found.number (codes "cells")
+  forks ← found.number (codes "forks")
+  budget ← found.number (codes "budget")
+  Some (circuit_asked found cells forks budget)
+
+-- the options that each has a use for, its own flag among them
+abbrev pub uses : Verilog → List Text
+uses (printed.Circuit cells forks handshake) = codes "cells" ∷ codes "forks" ∷ codes "name" ∷ codes "handshake" ∷ []
+uses (printed.Run cells forks budget) = codes "run" ∷ codes "cells" ∷ codes "forks" ∷ codes "budget" ∷ []
+uses (printed.Waves cells forks budget) = codes "vcd" ∷ codes "cells" ∷ codes "forks" ∷ codes "budget" ∷ []
+uses (printed.Bench budget) = codes "bench" ∷ codes "name" ∷ codes "budget" ∷ []
+uses (printed.Needs budget) = codes "needs" ∷ codes "budget" ∷ []
+uses (printed.Schedule budget) = codes "schedule" ∷ codes "budget" ∷ []
+
+-- an option isn't given, or it has a use for it
+abbrev pub goes_with : Findings → Verilog → Text → Bool
+goes_with found asked name = not (found.is_given name) || list_any (bytes_eq name) (uses asked)
+
+-- and so is each option
+abbrev pub all_go_with : Findings → Verilog → Bool
+all_go_with found asked = list_all (λ c. goes_with found asked (choice_name c)) circuit_choices
+
+-- what was found asks for nothing: the name is no module's, or an option is given that what is asked for has no use for
+pub data IsUnfit (found : Findings) : Type 0 where
+  no_module : (name : Text) → found.text (codes "name") ≡ Some name → module_name name ≡ false → IsUnfit found
+  no_use : (asked : Verilog) → circuit_in found ≡ Some asked → all_go_with found asked ≡ false → IsUnfit found
 
 -- ---- the jobs
 -- `replay` reads the part of a trace always, and asks for it with `--trace` alone: `clap`'s definition has no word for an option that
--- wants another, and so doesn't refuse the part without it. `circuit` refuses a name that is no module's, whatever it is asked for.
+-- wants another, and so doesn't refuse the part without it. `circuit` refuses a name that is no module's, and an option without use.
 
 abbrev pub run_job : Findings → Option JobTree
 run_job found = do
@@ -253,11 +292,9 @@ trace_job found = do
 abbrev pub circuit_job : Findings → Option JobTree
 circuit_job found = do
   file ← found.text (codes "file")
-  cells ← found.number (codes "cells")
-  forks ← found.number (codes "forks")
-  budget ← found.number (codes "budget")
   name ← name_in found
-  Some (circuit_asked found file name cells forks budget)
+  asked ← circuit_in found
+  if all_go_with found asked then Some (verilog file name asked) else None
 
 abbrev pub span_job : Findings → Option JobTree
 span_job found = do
@@ -345,8 +382,7 @@ abbrev pub circuit_row : CommandRow
 circuit_row = record {
   name = codes "circuit";
   operands = file_operand ∷ [];
-  choices = cells_choice ∷ forks_choice ∷ budget_choice ∷ switch (codes "run") ∷ switch (codes "vcd")
-      ∷ switch (codes "needs") ∷ schedule_choice ∷ name_choice ∷ switch (codes "handshake") ∷ switch (codes "bench") ∷ [];
+  choices = circuit_choices;
   job = circuit_job;
 }
 

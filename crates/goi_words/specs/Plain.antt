@@ -147,6 +147,7 @@ given c values settings = record {
   number = λ name. option_or (number_given c.operands values name) (option_given c.choices settings name);
   numbers = λ name. numbers_given c.operands values name;
   is_set = λ name. is_given name settings;
+  is_given = λ name. is_given name settings;
 }
 
 -- ---- all of it

@@ -2,8 +2,8 @@
 
 ghost use Rattle.goi_words.specs.Laws.{HelpIsRefused, NoWordsAreRefused, PlainWordsAreTaken, TakenWordsHaveAJob};
 
-/// Plain words are never refused, and ask for what the table says: a command, its operands in order, and then its options in any
-/// order, each at most once.
+/// Plain words ask for what the table says: a command, its operands in order, and then its options in any order, each at most once. They
+/// are never refused, but at `circuit` for an option that has no use there.
 pub fn law_plain_words()
     ensures { PlainWordsAreTaken }
 {}
@@ -19,7 +19,7 @@ pub fn law_help()
 {}
 
 /// Words that `clap`'s definition takes ask for a job, and its numbers are in range; or they enter `circuit` with a name that is no
-/// module's, and are refused.
+/// module's or with an option that has no use there, and are refused.
 pub fn law_taken_words()
     ensures { TakenWordsHaveAJob }
 {}

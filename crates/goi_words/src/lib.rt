@@ -2,8 +2,9 @@
 //!
 //! `job_of` reads the words with `clap` and answers the `Job` that they ask for. Which job it is, is the definition `job` of
 //! `specs/Asked.antt`: what `clap`'s own definition makes of the words at the table of commands of `specs/Commands.antt`. Plain words
-//! (`specs/Plain.antt`) mean what the table says, and nothing is refused but what `clap` refuses, and a name of a circuit's module that is
-//! none (`specs/Laws.antt`). Contracts see a `Job` as the `JobTree` of `goi_jobs`. Doing the job is left to the crates above.
+//! (`specs/Plain.antt`) mean what the table says, and nothing is refused but what `clap` refuses, and at `circuit` a name that is no
+//! module's and an option without use (`specs/Laws.antt`). Contracts see a `Job` as the `JobTree` of `goi_jobs`. Doing the job is left to
+//! the crates above.
 #![tactic(auto)]
 
 mod commands;

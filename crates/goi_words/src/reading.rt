@@ -2,12 +2,13 @@
 
 ghost use Rattle.std.specs.Prelude.{◌≡◌, ◌≢◌, ◌⊎◌, IfOk, IfErr, IsErrOf, None, Some, codes, false, [], map, option_map};
 ghost use Rattle.std.specs.Prelude.{string_bytes};
+ghost use Rattle.std.specs.List.{list_any};
 ghost use Rattle.std.specs.Str.{bytes_eq};
 ghost use Rattle.clap.specs.Words.{Text, fault_of, found_of, rows_of, subcommand_of, subcommand_rows_of};
-ghost use Rattle.goi_words.specs.Commands.{batch_job, call_job, calling_in, check_job, circuit_asked, circuit_job};
-ghost use Rattle.goi_words.specs.Commands.{demo_job, goi_command, if_traced, name_in, net_job, replay_job, run_job};
-ghost use Rattle.goi_words.specs.Commands.{run_net_job, span_job, steps_job, trace_job, window_of};
-ghost use Rattle.goi_words.specs.Asked.{NamesNoModule, findings, is_set, is_taken, job, job_on, number_of};
+ghost use Rattle.goi_words.specs.Commands.{all_go_with, batch_job, call_job, calling_in, check_job, circuit_asked, circuit_in};
+ghost use Rattle.goi_words.specs.Commands.{circuit_job, demo_job, goes_with, goi_command, if_traced, name_in, net_job, replay_job};
+ghost use Rattle.goi_words.specs.Commands.{run_job, run_net_job, span_job, steps_job, trace_job, uses, window_of};
+ghost use Rattle.goi_words.specs.Asked.{AreUnfit, findings, is_from_words, is_given, is_set, is_taken, job, job_on, number_of};
 ghost use Rattle.goi_words.specs.Asked.{numbers_of, text_of, wide_number_in, wide_numbers_in};
 ghost use Rattle.goi_words.specs.Growing.{lent_tree};
 ghost use Rattle.goi_jobs.specs.Jobs.{IsWithinLimits, job_of};
@@ -16,6 +17,7 @@ ghost use Rattle.goi_words.specs.declared.faults.WordFault.TheVariants.{NoMemory
 use crate::commands::goi_command;
 use crate::faults::WordFault;
 use clap::ArgMatches;
+use clap::parser::ValueSource;
 use goi_jobs::{Job, Shown, Task, Verilog, Window};
 use pcf_values::Ident;
 use program_runs::{Calling, calling_of};
@@ -27,14 +29,14 @@ use verilog_names::is_module_name;
 ///
 /// # Errors
 ///
-/// `Refused` comes only when `clap`'s definition refuses the words, or the name of a circuit's module is none, and `NoMemory` when memory
-/// runs out.
+/// `Refused` comes only when `clap`'s definition refuses the words, or what they ask of `circuit` is unfit: the name of its module is none,
+/// or an option is given that has no use there. `NoMemory` comes when memory runs out.
 pub fn job_of(alloc: Global, words: &[String]) -> Result<Job, WordFault>
     ensures ok { IfOk result (λ done. job (map string_bytes words.now) ≡ Some (job_of done)) }
     ensures within { IfOk result (λ done. IsWithinLimits (job_of done)) }
     ensures none { IsErrOf result Refused → job (map string_bytes words.now) ≡ None }
     ensures refused { IsErrOf result Refused
-        → (is_taken (map string_bytes words.now) ≡ false) ⊎ NamesNoModule (map string_bytes words.now) }
+        → (is_taken (map string_bytes words.now) ≡ false) ⊎ AreUnfit (map string_bytes words.now) }
 {
     let matches = parse(alloc, words)?;
     match matches.subcommand() {
@@ -230,52 +232,96 @@ fn trace_job<'a>(found: &ArgMatches<'a>) -> Option<Lent<'a>>
     Some(Lent::Text(file, workers, task))
 }
 
-/// The job of the words behind `circuit`; a name that is no module's is refused.
+/// The job of the words behind `circuit`; a name that is no module's is refused, and an option that what is asked for has no use for.
 fn circuit_job<'a>(found: &ArgMatches<'a>) -> Option<Lent<'a>>
     ensures { option_map lent_tree result ≡ circuit_job (findings (rows_of (found_of found.now))) }
 {
     let file = text_of(found, "file")?;
+    let name = name_in(found)?;
+    let asked = circuit_in(found)?;
+    if all_go_with(found, asked) {
+        Some(Lent::Verilog(file, name, asked))
+    } else {
+        None
+    }
+}
+
+/// What is asked for of a circuit, with the numbers that were found.
+fn circuit_in(found: &ArgMatches<'_>) -> Option<Verilog>
+    ensures { result ≡ circuit_in (findings (rows_of (found_of found.now))) }
+{
     let cells = number_of(found, "cells")?;
     let forks = number_of(found, "forks")?;
     let budget = number_of(found, "budget")?;
-    let name = name_in(found)?;
-    Some(circuit_asked(found, file, name, cells, forks, budget))
+    Some(circuit_asked(found, cells, forks, budget))
 }
 
-/// What a circuit needs within so many moves where that was found, and else who moves in it where that was, and else a bench for it where
-/// that was, and else the run of a circuit of these sizes for so many cycles where that was, and else the circuit.
-fn circuit_asked<'a>(
-    found: &ArgMatches<'_>,
-    file: &'a str,
-    name: &'a str,
-    cells: u32,
-    forks: u32,
-    budget: u32,
-) -> Lent<'a>
-    ensures { lent_tree result ≡ circuit_asked (findings (rows_of (found_of found.now))) file.now name.now cells forks budget }
+/// What is asked for by the flag of one of these, and else the circuit itself.
+fn circuit_asked(found: &ArgMatches<'_>, cells: u32, forks: u32, budget: u32) -> Verilog
+    ensures { result ≡ circuit_asked (findings (rows_of (found_of found.now))) cells forks budget }
 {
-    if is_set(found, "needs") {
-        Lent::Text(file, 1, Task::NeedsCircuit { budget })
-    } else if is_set(found, "schedule") {
-        Lent::Text(file, 1, Task::ScheduleCircuit { budget })
-    } else if is_set(found, "bench") {
-        Lent::Verilog(file, name, Verilog::Bench { budget })
-    } else if is_set(found, "run") {
-        let task = Task::RunCircuit {
+    if is_set(found, "run") {
+        Verilog::Run {
             cells,
             forks,
             budget,
-            waves: is_set(found, "vcd"),
-        };
-        Lent::Text(file, 1, task)
+        }
+    } else if is_set(found, "vcd") {
+        Verilog::Waves {
+            cells,
+            forks,
+            budget,
+        }
+    } else if is_set(found, "bench") {
+        Verilog::Bench { budget }
+    } else if is_set(found, "needs") {
+        Verilog::Needs { budget }
+    } else if is_set(found, "schedule") {
+        Verilog::Schedule { budget }
     } else {
-        let verilog = Verilog::Circuit {
+        Verilog::Circuit {
             cells,
             forks,
             handshake: is_set(found, "handshake"),
-        };
-        Lent::Verilog(file, name, verilog)
+        }
     }
+}
+
+/// Whether it has a use for the option of this name.
+fn has_use(asked: Verilog, name: &str) -> bool
+    ensures { result ≡ list_any (bytes_eq name.now) (uses asked) }
+{
+    match asked {
+        Verilog::Circuit { .. } => matches!(name, "cells" | "forks" | "name" | "handshake"),
+        Verilog::Run { .. } => matches!(name, "run" | "cells" | "forks" | "budget"),
+        Verilog::Waves { .. } => matches!(name, "vcd" | "cells" | "forks" | "budget"),
+        Verilog::Bench { .. } => matches!(name, "bench" | "name" | "budget"),
+        Verilog::Needs { .. } => matches!(name, "needs" | "budget"),
+        Verilog::Schedule { .. } => matches!(name, "schedule" | "budget"),
+    }
+}
+
+/// Whether an option isn't given, or it has a use for it.
+fn goes_with(found: &ArgMatches<'_>, asked: Verilog, name: &str) -> bool
+    ensures { result ≡ goes_with (findings (rows_of (found_of found.now))) asked name.now }
+{
+    !is_given(found, name) || has_use(asked, name)
+}
+
+/// Whether each option of `circuit` isn't given, or it has a use for it.
+fn all_go_with(found: &ArgMatches<'_>, asked: Verilog) -> bool
+    ensures { result ≡ all_go_with (findings (rows_of (found_of found.now))) asked }
+{
+    goes_with(found, asked, "cells")
+        && goes_with(found, asked, "forks")
+        && goes_with(found, asked, "budget")
+        && goes_with(found, asked, "run")
+        && goes_with(found, asked, "vcd")
+        && goes_with(found, asked, "needs")
+        && goes_with(found, asked, "schedule")
+        && goes_with(found, asked, "name")
+        && goes_with(found, asked, "handshake")
+        && goes_with(found, asked, "bench")
 }
 
 /// The job of the words behind `span`.
@@ -428,4 +474,18 @@ fn is_set(found: &ArgMatches<'_>, name: &str) -> bool
     ensures { result ≡ is_set name.now (rows_of (found_of found.now)) }
 {
     found.get_one::<bool>(name).unwrap_or(false)
+}
+
+/// Whether the words give an argument.
+fn is_given(found: &ArgMatches<'_>, name: &str) -> bool
+    ensures { result ≡ is_given name.now (rows_of (found_of found.now)) }
+{
+    is_from_words(found.value_source(name))
+}
+
+/// Whether a value comes from the words, and is no default.
+fn is_from_words(source: Option<ValueSource>) -> bool
+    ensures { result ≡ is_from_words source }
+{
+    matches!(source, Some(ValueSource::CommandLine))
 }

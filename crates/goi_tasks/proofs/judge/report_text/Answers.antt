@@ -1,4 +1,4 @@
-use Rattle.goi_jobs.specs.declared.task.Task.TheVariants.{Check, ShowNet, RunCircuit, NeedsCircuit, ScheduleCircuit, Span, Steps}
+use Rattle.goi_jobs.specs.declared.task.Task.TheVariants.{Check, ShowNet, Span, Steps}
 use Rattle.goi_tasks.proofs.Texts.{by_these}
 use Rattle.goi_tasks.proofs.judge.report_text.Goals as goal
 
@@ -21,18 +21,3 @@ pub returns-in-Steps-clause-report : goal.returns-in-Steps-clause-report
 returns-in-Steps-clause-report g c =
     by_these c.args.task (Steps _ _) c.in-Steps.is c.args.bytes.now (g.C.Crew.count c.args.crew.now) c.report_steps.result
     c.report_steps.ensures.report
-
-pub returns-in-NeedsCircuit-clause-report : goal.returns-in-NeedsCircuit-clause-report
-returns-in-NeedsCircuit-clause-report g c =
-    by_these c.args.task (NeedsCircuit _) c.in-NeedsCircuit.is c.args.bytes.now (g.C.Crew.count c.args.crew.now) c.report_needs.result
-    c.report_needs.ensures.report
-
-pub returns-in-ScheduleCircuit-clause-report : goal.returns-in-ScheduleCircuit-clause-report
-returns-in-ScheduleCircuit-clause-report g c =
-    by_these c.args.task (ScheduleCircuit _) c.in-ScheduleCircuit.is c.args.bytes.now (g.C.Crew.count c.args.crew.now)
-    c.report_schedule.result c.report_schedule.ensures.report
-
-pub returns-in-RunCircuit-clause-report : goal.returns-in-RunCircuit-clause-report
-returns-in-RunCircuit-clause-report g c =
-    by_these c.args.task (RunCircuit _ _ _ _) c.in-RunCircuit.is c.args.bytes.now (g.C.Crew.count c.args.crew.now)
-    c.report_circuit_run.result c.report_circuit_run.ensures.report

@@ -6,7 +6,7 @@ use Rattle.goi_tasks.proofs.Texts.{no_net, of_net}
 use Rattle.goi_tasks.proofs.needs.report_needs.Goals as goal
 
 pub returns-clause-report : goal.returns-clause-report
-returns-clause-report c = λ workers.
+returns-clause-report c =
     of_net ByName c.args.bytes.now c.in_ok-net.net (λ t. ReportsNeeds c.args.budget t (output_of c.in_ok-report.field-0))
     c.in_ok-net.ensures.net (λ t is. c.in_ok-report.ensures t is)
 

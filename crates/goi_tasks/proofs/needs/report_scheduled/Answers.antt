@@ -1,11 +1,11 @@
-use Rattle.newest_core.specs.Processor.{newest}
+use Rattle.newest_runs.specs.Order.{newest_first}
 use Rattle.goi_tasks.proofs.Counted.{booked_by_one, reports_schedule}
 use Rattle.goi_tasks.proofs.needs.report_scheduled.Goals as goal
 
 pub scheduled_text-text-requires : goal.scheduled_text-text-requires
 scheduled_text-text-requires c =
     let made = c.in_ok-made.made in
-    booked_by_one (newest c.args.net.now c.args.budget) made.log.entries c.in_ok-made.ensures.log
+    booked_by_one (newest_first c.args.net.now c.args.budget) made.log.entries c.in_ok-made.ensures.log
 
 pub returns : goal.returns
 returns c =
